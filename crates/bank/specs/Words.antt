@@ -1,0 +1,22 @@
+-- Numbers of 16 and of 32 bits in a list of bytes, little endian: read at a place, and put there. Assumes nothing.
+use mathlib.Core.List.{List}
+use Prim.Native.Nat.{ℕ, _+_, _*_, _^_}
+use lib.ListN.{getD}
+use Rattle.bits.specs.Bits.{byte, joined}
+use Rattle.bank.specs.Update.{update}
+
+-- the number of 16 bits at place p
+unfoldable pub halfAt : List ℕ → ℕ → ℕ
+halfAt s p = getD s p 0 + getD s (p + 1) 0 * 2 ^ 8
+
+-- and x put there
+unfoldable pub putHalf : ℕ → ℕ → List ℕ → List ℕ
+putHalf p x s = update 2 (λ n. p + n) (λ n was. byte x n) s
+
+-- the number of 32 bits at place p: byte 0 of a word is its bits 7 to 0
+unfoldable pub wordAt : List ℕ → ℕ → ℕ
+wordAt s p = joined (getD s p 0) (getD s (p + 1) 0) (getD s (p + 2) 0) (getD s (p + 3) 0)
+
+-- and x put there
+unfoldable pub putWord : ℕ → ℕ → List ℕ → List ℕ
+putWord p x s = update 4 (λ n. p + n) (λ n was. byte x n) s
