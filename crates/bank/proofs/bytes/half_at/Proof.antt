@@ -1,0 +1,12 @@
+-- `bank::bytes::half_at` meets its contract: the two bytes read are the definition's, joined. Assumes nothing.
+use borrow.Author.Needs.{needs}
+use Rattle.bank.specs.Words.{halfAt}
+use Rattle.bank.proofs.bytes.half_at.Statement.{statement}
+use Rattle.bank.proofs.bytes.half_at.Tie as tie
+
+returns : tie.Need-returns
+unfolding halfAt
+returns c = cc
+
+pub half-at-spec : {M : Type 1} → statement M
+half-at-spec = tie.close (tie.spec (λ c. search needs) (λ c. search needs) (λ c. search needs) (λ c κs. search needs) returns)

@@ -1,0 +1,12 @@
+-- `bank::bytes::word_at` meets its contract: the four bytes read are the definition's, joined. Assumes nothing.
+use borrow.Author.Needs.{needs}
+use Rattle.bank.specs.Words.{wordAt}
+use Rattle.bank.proofs.bytes.word_at.Statement.{statement}
+use Rattle.bank.proofs.bytes.word_at.Tie as tie
+
+returns : tie.Need-returns
+unfolding wordAt
+returns c = cc
+
+pub word-at-spec : {M : Type 1} → statement M
+word-at-spec = tie.close (tie.spec (λ c. search needs) (λ c. search needs) (λ c. search needs) (λ c. search needs) (λ c. search needs) (λ c. search needs) (λ c. search needs) (λ c κs. search needs) returns)
