@@ -1,0 +1,112 @@
+-- What the tests of a well formed block come to, as code makes them. Assumes nothing.
+use mathlib.Core.Path.{_≡_, refl, sym, ap, ap₂, _∙_}
+use mathlib.Core.Logic.{_≢_}
+use mathlib.Core.Bool.{Bool, true, false, not, _&&_, _||_}
+use mathlib.Core.List.{List, [], _∷_}
+use Prim.Native.Nat.{ℕ, zero, suc, _+_, _*_, _/_, _%_, _^_, _<_, _≤_}
+use native.Mathlib.Decide.{ℕ-discrete}
+use native.Mathlib.Nat.{mod-eq-of-lt}
+use native.Mathlib.Omega.{arith}
+use lib.Bits.{and-mask}
+use lib.Dec.{eqb, leb, ltb}
+use lib.ListN.{getD}
+use borrow.Author.Tests.{eq-eqb, ne-eqb, le-leb, not-true, not-false}
+use Rattle.bits.specs.Bits.{joined, every, within}
+use Rattle.bank.specs.Words.{halfAt, wordAt}
+use Rattle.bank.proofs.Words.{half-at-lt}
+use Rattle.chip.specs.State.{closed, pageFits, storable}
+use Rattle.stored.specs.Block.{halvesAt, header, same}
+
+-- ---- an open page
+
+pub page-test : (P page : ℕ) → page < 2 ^ 16 → leb ((page + 1) % 2 ^ 16) P ≡ pageFits P page
+unfolding pageFits closed
+page-test P page h = go (ℕ-discrete page 65535) (decided P page)
+  where
+    decided : (P page : ℕ) → leb (page + 1) P ≡ ltb page P
+    decided P page = ap (λ (n : ℕ). leb n P) (omega arith)
+
+    or-true : (b : Bool) → true ≡ (b || true)
+    or-true true = refl
+    or-true false = refl
+
+    or-false : (b : Bool) → b ≡ (b || false)
+    or-false true = refl
+    or-false false = refl
+
+    go : Dec (page ≡ 65535) → leb (page + 1) P ≡ ltb page P → leb ((page + 1) % 2 ^ 16) P ≡ (ltb page P || eqb page 65535)
+    go (yes e) q = rw (e, eq-eqb 65535 65535 refl) (le-leb 0 P (omega arith) ∙ or-true (ltb 65535 P))
+    go (no f) q =
+        let small : (page + 1) % 2 ^ 16 ≡ page + 1 = mod-eq-of-lt (omega arith) in
+        rw (small, q, ne-eqb page 65535 f) (or-false (ltb page P))
+
+-- ---- the header
+
+two-halves : (s : List ℕ) (p : ℕ) → wordAt s p ≡ halfAt s p + halfAt s (p + 2) * 2 ^ 16
+unfolding wordAt halfAt joined
+two-halves s p =
+    let e : p + 2 + 1 ≡ p + 3 = omega arith in
+    rw e (omega arith)
+
+-- two half words are two numbers exactly if their word is those two
+pair-test : (s : List ℕ) (p x y : ℕ) → ((a : ℕ) → getD s a 0 < 2 ^ 8) → x < 2 ^ 16
+    → (eqb (halfAt s p) x && eqb (halfAt s (p + 2)) y) ≡ eqb (wordAt s p) (x + y * 2 ^ 16)
+pair-test s p x y bytes hx = go (ℕ-discrete (halfAt s p) x) (ℕ-discrete (halfAt s (p + 2)) y)
+  where
+    halves : wordAt s p ≡ halfAt s p + halfAt s (p + 2) * 2 ^ 16
+    halves = two-halves s p
+
+    low : halfAt s p < 2 ^ 16
+    low = half-at-lt s p bytes
+
+    go : Dec (halfAt s p ≡ x) → Dec (halfAt s (p + 2) ≡ y) → (eqb (halfAt s p) x && eqb (halfAt s (p + 2)) y) ≡ eqb (wordAt s p) (x + y * 2 ^ 16)
+    go (yes e) (yes f) = rw (eq-eqb (halfAt s p) x e, eq-eqb (halfAt s (p + 2)) y f) (sym (eq-eqb (wordAt s p) (x + y * 2 ^ 16) (omega (arith, halves, e, f))))
+    go (yes e) (no g) = rw (eq-eqb (halfAt s p) x e, ne-eqb (halfAt s (p + 2)) y g)
+        (sym (ne-eqb (wordAt s p) (x + y * 2 ^ 16) (λ q. g (omega (arith, halves, e, q)))))
+    go (no f) r = rw (ne-eqb (halfAt s p) x f) (sym (ne-eqb (wordAt s p) (x + y * 2 ^ 16) (λ q. f (omega (arith, halves, q, low, hx)))))
+
+regroup : (a b c d e f g : Bool) → (a && (b && (c && (d && (e && (f && (g && true))))))) ≡ (a && ((b && c) && ((d && e) && (f && g))))
+regroup false b c d e f g = refl
+regroup true false c d e f g = refl
+regroup true true false d e f g = refl
+regroup true true true false e f g = refl
+regroup true true true true false f g = refl
+regroup true true true true true false g = refl
+regroup true true true true true true true = refl
+regroup true true true true true true false = refl
+
+-- the header's test, as code makes it
+pub header-test : (s : List ℕ) → ((a : ℕ) → getD s a 0 < 2 ^ 8) → same (halvesAt 8 s 0) (header (halfAt s 0))
+    ≡ (eqb (halfAt s 2) 8 && (eqb (wordAt s 4) 0x0018_0010 && (eqb (wordAt s 8) 0x003c_0034 && eqb (wordAt s 12) 0x015c_005c)))
+unfolding same halvesAt header
+header-test s bytes =
+    rw (eq-eqb (halfAt s 0) (halfAt s 0) refl)
+    (regroup (eqb (halfAt s 2) 8) (eqb (halfAt s 4) 16) (eqb (halfAt s 6) 24) (eqb (halfAt s 8) 52) (eqb (halfAt s 10) 60) (eqb (halfAt s 12) 92) (eqb (halfAt s 14) 348)
+    ∙ ap (λ (t : Bool). eqb (halfAt s 2) 8 && t)
+    (ap₂ _&&_ (pair-test s 4 16 24 bytes (omega arith))
+    (ap₂ _&&_ (pair-test s 8 52 60 bytes (omega arith)) (pair-test s 12 92 348 bytes (omega arith)))))
+
+-- ---- registers 5 to 7 alone can hold a bit that is not allowed
+
+any-bits : (x : ℕ) → x < 2 ^ 32 → within x 0xffff_ffff ≡ true
+unfolding within
+any-bits x h = eq-eqb _ _ (and-mask x 32 ∙ mod-eq-of-lt h)
+
+pub register-test : (l : List ℕ) → ((n : ℕ) → getD l n 0 < 2 ^ 32) → every 7 (λ n. within (getD l n 0) (getD storable n 0))
+    ≡ (within (getD l 4 0) 0x2f2f_2f2f && within (getD l 5 0) 0x0003_0707 && within (getD l 6 0) 1)
+unfolding every storable
+register-test l fit = rw (any-bits (getD l 0 0) (fit 0), any-bits (getD l 1 0) (fit 1), any-bits (getD l 2 0) (fit 2), any-bits (getD l 3 0) (fit 3))
+
+-- ---- a test of a result that equals x
+
+pub equal : {r x k : ℕ} → r ≡ x → r ≡ k → eqb x k ≡ true
+equal {r} {x} {k} e q = eq-eqb x k (sym e ∙ q)
+
+pub unequal : {r x k : ℕ} → r ≡ x → (r ≡ k → ⊥) → eqb x k ≡ false
+unequal {r} {x} {k} e f = ne-eqb x k (λ q. f (e ∙ q))
+
+pub passed : {r t : Bool} → r ≡ t → not r ≡ false → t ≡ true
+passed {r} {t} e q = sym e ∙ not-false r q
+
+pub failed : {r t : Bool} → r ≡ t → not r ≡ true → t ≡ false
+failed {r} {t} e q = sym e ∙ not-true r q

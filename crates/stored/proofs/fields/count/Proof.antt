@@ -1,0 +1,10 @@
+-- `stored::fields::count` meets its contract: the sum wraps as the counter does. Assumes nothing.
+use borrow.Author.Needs.{needs}
+use Rattle.stored.proofs.fields.count.Statement.{statement}
+use Rattle.stored.proofs.fields.count.Tie as tie
+
+returns : tie.Need-returns
+returns c = cc
+
+pub count-spec : {M : Type 1} → statement M
+count-spec = tie.close (tie.spec (λ c κs. search needs) (λ c κs. search needs) (λ c κs. search needs) (λ c. search needs) returns)

@@ -1,0 +1,12 @@
+-- `stored::fields::hit` meets its contract: the field, where it lies. Assumes nothing.
+use Rattle.stored.specs.Block.{decodeControl}
+use borrow.Author.Needs.{needs}
+use Rattle.stored.proofs.fields.hit.Statement.{statement}
+use Rattle.stored.proofs.fields.hit.Tie as tie
+
+returns : tie.Need-returns
+unfolding decodeControl
+returns c = cc
+
+pub hit-spec : {M : Type 1} → statement M
+hit-spec = tie.close (tie.spec (λ c κs. search needs) (λ c κs. search needs) returns)

@@ -1,0 +1,12 @@
+-- `stored::fields::pages` meets its contract: the field, where it lies. Assumes nothing.
+use Rattle.stored.specs.Block.{decodeControl}
+use borrow.Author.Needs.{needs}
+use Rattle.stored.proofs.fields.pages.Statement.{statement}
+use Rattle.stored.proofs.fields.pages.Tie as tie
+
+returns : tie.Need-returns
+unfolding decodeControl
+returns c = cc
+
+pub pages-spec : {M : Type 1} → statement M
+pages-spec = tie.close (tie.spec (λ c κs. search needs) returns)

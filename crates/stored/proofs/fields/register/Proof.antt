@@ -1,0 +1,21 @@
+-- `stored::fields::register` meets its contract: one of the seven words. Assumes nothing.
+use Rattle.stored.proofs.Places.{words-at}
+use Rattle.stored.specs.Block.{decodeControl}
+use Rattle.bank.specs.Words.{wordAt}
+use Rattle.pixel.specs.Registers.{register}
+use native.Mathlib.Omega.{arith}
+use Prim.Native.Nat.{ℕ, _+_, _-_, _*_, _<_, _≤_}
+use mathlib.Core.Path.{_≡_, refl, sym, ap, _∙_}
+use borrow.Author.Needs.{needs}
+use Rattle.stored.proofs.fields.register.Statement.{statement}
+use Rattle.stored.proofs.fields.register.Tie as tie
+
+returns : tie.Need-returns
+unfolding register decodeControl
+returns c =
+    let a = c .before .before .args in
+    let place : 20 + 4 * a .number ≡ 24 + 4 * (a .number - 1) = omega arith in
+    c .word-at .ensures ∙ ap (wordAt (a .s .now)) place ∙ sym (words-at 7 24 (a .number - 1) (a .s .now) (omega arith))
+
+pub register-spec : {M : Type 1} → statement M
+register-spec = tie.close (tie.spec (λ c. search needs) (λ c. search needs) (λ c κs. search needs) returns)

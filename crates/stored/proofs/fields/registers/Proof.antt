@@ -1,0 +1,12 @@
+-- `stored::fields::registers` meets its contract: the seven words, where they lie. Assumes nothing.
+use Rattle.stored.specs.Block.{wordsAt, decodeControl}
+use borrow.Author.Needs.{needs}
+use Rattle.stored.proofs.fields.registers.Statement.{statement}
+use Rattle.stored.proofs.fields.registers.Tie as tie
+
+returns : tie.Need-returns
+unfolding decodeControl wordsAt
+returns c = cc
+
+pub registers-spec : {M : Type 1} → statement M
+registers-spec = tie.close (tie.spec (λ c κs. search needs) (λ c κs. search needs) (λ c κs. search needs) (λ c κs. search needs) (λ c κs. search needs) (λ c κs. search needs) (λ c κs. search needs) returns)
