@@ -1,14 +1,14 @@
 -- A scan line that is given lies in memory, and one that is refused is empty. Assumes nothing.
-use mathlib.Core.Path.{_≡_, refl, sym, ap, _∙_}
+use mathlib.Core.Path.{_≡_}
 use mathlib.Core.Logic.{_≢_}
-use mathlib.Core.Bool.{Bool, true, false, not, _&&_}
+use mathlib.Core.Bool.{true, not, _&&_}
 use mathlib.Core.List.{List, [], _∷_}
 use Prim.Native.Nat.{ℕ, _+_, _*_, _<_, _≤_}
 use native.Mathlib.Omega.{arith}
 use lib.Dec.{eqb, leb, ltb}
-use lib.ListN.{length, take, drop, length-take, length-drop}
+use lib.ListN.{length, length-take, length-drop}
 use borrow.Author.Tests.{ltb-true, leb-true, eqb-true}
-use Rattle.layout.specs.Numbers.{first, whenDone, pagesFit}
+use Rattle.layout.specs.Numbers.{first, pagesFit}
 use Rattle.layout.specs.Memory.{size, inBank, place, onLine, lineStart, scanLine, lineNumber, lineGiven}
 use Rattle.layout.proofs.Numbers.{none-applies, not-not, and-left, and-right, given-done, given-refused}
 use Rattle.layout.proofs.Places.{place-lt}

@@ -1,5 +1,5 @@
 -- The column table: 1,280 column numbers, and the same as bytes. Assumes nothing.
-use mathlib.Core.Bool.{Bool, cond, not}
+use mathlib.Core.Bool.{cond, not}
 use mathlib.Core.List.{List, [], _∷_}
 use Prim.Native.Nat.{ℕ, zero, suc, _+_, _*_, _/_, _%_, _^_}
 use lib.Dec.{eqb, ltb}
@@ -19,7 +19,7 @@ table (suc n) f = f zero ∷ table n (λ k. f (suc k))
 unfoldable pub columnEntry : ℕ → ℕ
 columnEntry x = 1024 * (x % 160 / 80) + 128 * (x / 160) + x % 80
 
--- 01, Memory: a constant table of 1,280 column numbers
+-- 01, Memory: the library holds a constant table of 1,280 column numbers
 unfoldable pub columnTable : List ℕ
 columnTable = table 1280 columnEntry
 
@@ -44,7 +44,7 @@ abbrev pub foundEntry : Column → ℕ
 foundEntry (Entry entry) = entry
 foundEntry OffScreen = 0
 
--- ---- the table in a caller's buffer: 1,280 entries of 16 bits, the lower byte first
+-- ---- the table in a caller's buffer, for programs that index it: 1,280 entries of 16 bits, the lower byte first
 
 -- byte j of the buffer: of entry j / 2, its byte j % 2
 unfoldable pub columnByte : ℕ → ℕ

@@ -9,12 +9,14 @@ pub const WIDTH: u32 = 1280;
 
 pub const HEIGHT: u32 = 1024;
 
+// The bank that the point lies in.
 fn bank_of(x: u32, y: u32) -> u32
     ensures { λ r. ⌜ r ≡ pointBank x y ⌝ }
 {
     2 * (y % 32 / 16) + x % 160 / 80
 }
 
+// The page that the point lies in.
 fn page_of(x: u32, y: u32) -> u32
     ensures { λ r. ⌜ r ≡ pointPage x y ⌝ }
 {
@@ -28,7 +30,7 @@ fn on_screen(pages: u32, x: u32, y: u32) -> bool
     (x < WIDTH) & (y < HEIGHT) & (page_of(x, y) < pages)
 }
 
-// The point, whether on screen or not.
+// Where the point lies, whether on screen or not.
 fn place_of(x: u32, y: u32) -> Point
     ensures { λ r. ⌜ r ≡ pointAt x y ⌝ }
 {
@@ -40,7 +42,7 @@ fn place_of(x: u32, y: u32) -> Point
     }
 }
 
-// The screen point (x, y), in a memory of so many pages to a bank.
+// The screen point (x, y), in a memory of so many pages to a bank. P is tested first.
 pub fn point(pages: u32, x: u32, y: u32) -> Pointed
     ensures { λ r. ⌜ r ≡ pointedOf pages x y ⌝ }
 {

@@ -1,9 +1,7 @@
 -- `columns::column` meets its contract: the table's entry for x is the rule's. Assumes nothing.
-use mathlib.Core.Path.{_≡_, ap, _∙_}
 use borrow.Author.Needs.{needs}
 use borrow.Author.Tests.{lt-ltb, le-ltb}
 use Rattle.layout.specs.Columns.{columnEntry, columnTable, columnFound}
-use Rattle.layout.specs.declared.Column.the-variants.{Entry}
 use Rattle.layout.proofs.Tables.{getD-table}
 use Rattle.layout.proofs.columns.column.Statement.{statement}
 use Rattle.layout.proofs.columns.column.Tie as tie
@@ -14,7 +12,7 @@ returns c = rw (le-ltb _ _ (c .if1 .taken))
 
 returns-2 : tie.Need-returns-2
 unfolding columnFound columnTable
-returns-2 c = rw (c .table .ensures, getD-table 1280 columnEntry (c .before .before .args .x) (c .before .if1 .left), lt-ltb _ _ (c .before .if1 .left))
+returns-2 c = rw (c .columns .ensures, getD-table 1280 columnEntry (c .before .before .args .x) (c .before .if1 .left), lt-ltb _ _ (c .before .if1 .left))
 
 pub column-spec : {M : Type 1} → statement M
 column-spec = tie.close (tie.spec returns (λ c κs. search needs) (λ c. search needs) (λ c. search needs) returns-2)

@@ -7,7 +7,7 @@ use native.Mathlib.Omega.{arith}
 use lib.ListN.{length, getD, set, length-set}
 use borrow.Author.Needs.{needs}
 use borrow.Author.Tests.{eq-eqb, ne-eqb}
-use Rattle.layout.specs.Numbers.{first, whenDone}
+use Rattle.layout.specs.Numbers.{first}
 use Rattle.layout.specs.Columns.{columnEntry, columnTable, columnByte, columnBytes, columnsNumber, columnsLeft, filledOf}
 use Rattle.layout.proofs.Tables.{getD-table, is-table, filled-next}
 use Rattle.layout.proofs.Entries.{entry-lt, lower-byte, upper-byte}
@@ -22,9 +22,9 @@ abbrev μ-loop : tie.MeasureT-loop
 μ-loop buffer₀ entries x₀ buffer x = 1280 - x
 
 -- the entry that a turn reads is the rule's
-entry-read : (c : tie.In-loop Inv-loop μ-loop) → getD (c .before .before .table .result) (c .before .loop .x) 0 ≡ columnEntry (c .before .loop .x)
+entry-read : (c : tie.In-loop Inv-loop μ-loop) → getD (c .before .before .columns .result) (c .before .loop .x) 0 ≡ columnEntry (c .before .loop .x)
 unfolding columnTable
-entry-read c = ap (λ entries. getD entries (c .before .loop .x) 0) (c .before .before .table .ensures) ∙ getD-table 1280 columnEntry (c .before .loop .x) (omega arith)
+entry-read c = ap (λ entries. getD entries (c .before .loop .x) 0) (c .before .before .columns .ensures) ∙ getD-table 1280 columnEntry (c .before .loop .x) (omega arith)
 
 returns : tie.Need-returns Inv-loop μ-loop
 unfolding filledOf columnsLeft columnsNumber first
@@ -50,7 +50,7 @@ loop-again c =
     let x = c .before .loop .x in (
       omega arith,
       simp length-set (inv .1),
-      λ j h. turned (getD (c .before .before .table .result) x 0) x (c .before .loop .buffer) (omega arith) (entry-read c) (inv .1) (inv .2) j (omega arith),
+      λ j h. turned (getD (c .before .before .columns .result) x 0) x (c .before .loop .buffer) (omega arith) (entry-read c) (inv .1) (inv .2) j (omega arith),
     )
 
 returns-2 : tie.Need-returns-2 Inv-loop μ-loop

@@ -1,11 +1,11 @@
 -- `memory::scan_line` meets its contract: where the number is 0, the 80 bytes lie in memory, and elsewhere the part is empty. Assumes nothing.
-use mathlib.Core.Path.{_≡_, sym, ap, _∙_}
-use Prim.Native.Nat.{ℕ, _+_, _-_, _≤_}
+use mathlib.Core.Path.{_≡_, sym, _∙_}
+use Prim.Native.Nat.{_+_, _-_, _≤_}
 use native.Mathlib.Omega.{arith}
 use lib.ListN.{length}
 use borrow.Author.Needs.{needs}
-use Rattle.layout.specs.Memory.{size, scanLine, lineNumber, lineGiven}
-use Rattle.layout.proofs.Lines.{Passed, passed, line-inside, line-given, line-refused}
+use Rattle.layout.specs.Memory.{scanLine, lineNumber}
+use Rattle.layout.proofs.Lines.{passed, line-inside, line-given, line-refused}
 use Rattle.layout.proofs.memory.scan_line.Statement.{statement}
 use Rattle.layout.proofs.memory.scan_line.Tie as tie
 
