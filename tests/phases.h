@@ -1,0 +1,31 @@
+/* phases.h: the parts of the outside test. Each ends the program with a report at the first difference. */
+#ifndef PHASES_H
+#define PHASES_H
+
+#include <stdbool.h>
+#include <stdint.h>
+
+/* Document 01's examples, with the numbers that it prints. */
+void try_examples(void);
+
+/* Every screen point and those just outside, the column table, every scan line. */
+void try_points(void);
+void try_columns(void);
+void try_scan_lines(uint32_t pages);
+
+/* Operands at and past their edges, wrong lengths, damaged blocks, fresh chips. */
+void try_edges(uint32_t pages);
+void try_lengths(uint32_t pages);
+void try_damage(uint32_t pages, uint64_t seed);
+void try_fresh(uint32_t pages);
+
+/* Random calls, valid and invalid: library against model. */
+void try_random(uint32_t pages, uint64_t seed, unsigned long calls);
+
+/* Random calls that keep demand 3's premises: library against the flat picture. */
+void try_pictures(uint32_t pages, uint64_t seed, unsigned long calls);
+
+/* What the pictures drew with; false where something was never used. */
+bool drew_all(void);
+
+#endif
