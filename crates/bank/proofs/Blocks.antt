@@ -1,0 +1,75 @@
+-- A block's words: where the four bytes of one lie, and what a write-back makes of them at once. Assumes nothing.
+use mathlib.Core.Path.{_≡_, refl, sym, ap, _∙_}
+use mathlib.Core.List.{List}
+use Prim.Native.Nat.{ℕ, _+_, _*_, _/_, _%_, _^_, _<_}
+use native.Mathlib.Nat.{add-assoc}
+use native.Mathlib.Omega.{arith}
+use lib.ListN.{getD}
+use Rattle.bits.specs.Bits.{bit, byte, mergeByte}
+use Rattle.bits.proofs.Laws.{bit-shr}
+use Rattle.pixel.specs.Pixel.{mergeWord}
+use Rattle.pixel.proofs.Uses.{byte-merge}
+use Rattle.layout.specs.Memory.{inBank, onLine, lineOf, columnOf, inPage}
+use Rattle.layout.proofs.Places.{inPage-lt}
+use Rattle.bank.specs.Update.{update}
+use Rattle.bank.specs.Words.{wordAt, putWord}
+use Rattle.bank.specs.Work.{inSlot, backByte}
+use Rattle.bank.proofs.Words.{byte-word-at, word-turn}
+
+-- the four bytes of a word lie side by side: a line has a whole number of words
+in-line : (w n : ℕ) → n < 4 → (4 * w + n) / 8 ≡ 4 * w / 8
+in-line w n h = omega arith
+
+in-column : (w n : ℕ) → n < 4 → (4 * w + n) % 8 ≡ 4 * w % 8 + n
+in-column w n h = omega arith
+
+pub page-word : (k w n : ℕ) → n < 4 → inPage k (4 * w + n) ≡ inPage k (4 * w) + n
+unfolding inPage onLine lineOf columnOf
+page-word k w n h = rw (in-line w n h, in-column w n h) (omega arith)
+
+pub bank-word : (page k w n : ℕ) → n < 4 → inBank page (inPage k (4 * w + n)) ≡ page * 1280 + inPage k (4 * w) + n
+unfolding inBank
+bank-word page k w n h = rw (page-word k w n h) (omega arith)
+
+-- and all four are in the page
+pub word-in-page : (k w : ℕ) → k < 40 → w < 8 → inPage k (4 * w) + 3 < 1280
+word-in-page k w hk hw = rw (page-word k w 3 (omega arith)) at (inPage-lt k (4 * w + 3) hk (omega arith))
+
+pub slot-word-at : (slot w n : ℕ) → inSlot slot (4 * w + n) ≡ slot * 32 + 4 * w + n
+unfolding inSlot
+slot-word-at slot w n = sym (add-assoc (slot * 32) (4 * w) n)
+
+-- byte n of a word merged with the slot's is what a write-back makes of that byte of the block
+pub back-word : (part pixels : List ℕ) (a slot mask tag w n : ℕ)
+    → ((i : ℕ) → getD part i 0 < 2 ^ 8) → ((i : ℕ) → getD pixels i 0 < 2 ^ 8) → n < 4
+    → byte (mergeWord (wordAt part a) (wordAt pixels (slot * 32 + 4 * w)) mask (tag / 2 ^ (4 * w))) n
+    ≡ backByte mask tag (λ i. getD pixels (inSlot slot i) 0) (4 * w + n) (getD part (a + n) 0)
+unfolding backByte
+back-word part pixels a slot mask tag w n fit fit' h =
+    let place : (4 * w + n) % 4 ≡ n = omega arith in
+    byte-merge (wordAt part a) (wordAt pixels (slot * 32 + 4 * w)) mask (tag / 2 ^ (4 * w)) n h
+    ∙ rw (bit-shr tag (4 * w) n, byte-word-at part a fit n h, byte-word-at pixels (slot * 32 + 4 * w) fit' n h, place, slot-word-at slot w n)
+
+-- ---- one turn of a loop over the words of a block, which starts at a
+
+module _ (page k slot w a : ℕ) (here : a ≡ page * 1280 + inPage k (4 * w)) where
+  block-word : (n : ℕ) → n < 4 → inBank page (inPage k (4 * w + n)) ≡ a + n
+  block-word n h = rw here (bank-word page k w n h)
+
+  -- of a load: word w of the block, put into the slot
+  pub load-turn : (part pixels₀ pixels : List ℕ) → ((i : ℕ) → getD part i 0 < 2 ^ 8)
+      → pixels ≡ update (4 * w) (inSlot slot) (λ i was. getD part (inBank page (inPage k i)) 0) pixels₀
+      → putWord (slot * 32 + 4 * w) (wordAt part a) pixels
+      ≡ update (4 * (w + 1)) (inSlot slot) (λ i was. getD part (inBank page (inPage k i)) 0) pixels₀
+  load-turn part pixels₀ pixels bytes e =
+      word-turn w (slot * 32 + 4 * w) (wordAt part a) (inSlot slot) (λ i was. getD part (inBank page (inPage k i)) 0) pixels₀ pixels e
+      (λ n h. slot-word-at slot w n) (λ n h. byte-word-at part a bytes n h ∙ ap (λ (p : ℕ). getD part p 0) (sym (block-word n h)))
+
+  -- of a write-back: word w of the block, merged with the slot's
+  pub back-turn : (mask tag : ℕ) (pixels part₀ part : List ℕ) → ((i : ℕ) → getD part i 0 < 2 ^ 8) → ((i : ℕ) → getD pixels i 0 < 2 ^ 8)
+      → part ≡ update (4 * w) (λ i. inBank page (inPage k i)) (backByte mask tag (λ i. getD pixels (inSlot slot i) 0)) part₀
+      → putWord a (mergeWord (wordAt part a) (wordAt pixels (slot * 32 + 4 * w)) mask (tag / 2 ^ (4 * w))) part
+      ≡ update (4 * (w + 1)) (λ i. inBank page (inPage k i)) (backByte mask tag (λ i. getD pixels (inSlot slot i) 0)) part₀
+  back-turn mask tag pixels part₀ part fit fit' e =
+      word-turn w a _ (λ i. inBank page (inPage k i)) (backByte mask tag (λ i. getD pixels (inSlot slot i) 0)) part₀ part e
+      block-word (λ n h. back-word part pixels a slot mask tag w n fit fit' h)
