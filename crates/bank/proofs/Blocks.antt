@@ -50,7 +50,7 @@ back-word part pixels a slot mask tag w n fit fit' h =
     byte-merge (wordAt part a) (wordAt pixels (slot * 32 + 4 * w)) mask (tag / 2 ^ (4 * w)) n h
     ∙ rw (bit-shr tag (4 * w) n, byte-word-at part a fit n h, byte-word-at pixels (slot * 32 + 4 * w) fit' n h, place, slot-word-at slot w n)
 
--- ---- one turn of a loop over the words of a block, which starts at a
+-- ---- one turn of a loop over the words of a block: word w, which starts at a
 
 module _ (page k slot w a : ℕ) (here : a ≡ page * 1280 + inPage k (4 * w)) where
   block-word : (n : ℕ) → n < 4 → inBank page (inPage k (4 * w + n)) ≡ a + n
@@ -58,18 +58,17 @@ module _ (page k slot w a : ℕ) (here : a ≡ page * 1280 + inPage k (4 * w)) w
 
   -- of a load: word w of the block, put into the slot
   pub load-turn : (part pixels₀ pixels : List ℕ) → ((i : ℕ) → getD part i 0 < 2 ^ 8)
-      → pixels ≡ update (4 * w) (inSlot slot) (λ i was. getD part (inBank page (inPage k i)) 0) pixels₀
-      → putWord (slot * 32 + 4 * w) (wordAt part a) pixels
-      ≡ update (4 * (w + 1)) (inSlot slot) (λ i was. getD part (inBank page (inPage k i)) 0) pixels₀
-  load-turn part pixels₀ pixels bytes e =
-      word-turn w (slot * 32 + 4 * w) (wordAt part a) (inSlot slot) (λ i was. getD part (inBank page (inPage k i)) 0) pixels₀ pixels e
-      (λ n h. slot-word-at slot w n) (λ n h. byte-word-at part a bytes n h ∙ ap (λ (p : ℕ). getD part p 0) (sym (block-word n h)))
+      → pixels ≡ update (4 * w) (inSlot slot) (λ i was. getD part (inBank page (inPage k i)) 0) pixels₀ → (x : ℕ) → x ≡ wordAt part a
+      → putWord (slot * 32 + 4 * w) x pixels ≡ update (4 * (w + 1)) (inSlot slot) (λ i was. getD part (inBank page (inPage k i)) 0) pixels₀
+  load-turn part pixels₀ pixels bytes e x read =
+      word-turn w (slot * 32 + 4 * w) x (inSlot slot) (λ i was. getD part (inBank page (inPage k i)) 0) pixels₀ pixels e
+      (λ n h. slot-word-at slot w n) (λ n h. rw (read, block-word n h) (byte-word-at part a bytes n h))
 
   -- of a write-back: word w of the block, merged with the slot's
   pub back-turn : (mask tag : ℕ) (pixels part₀ part : List ℕ) → ((i : ℕ) → getD part i 0 < 2 ^ 8) → ((i : ℕ) → getD pixels i 0 < 2 ^ 8)
       → part ≡ update (4 * w) (λ i. inBank page (inPage k i)) (backByte mask tag (λ i. getD pixels (inSlot slot i) 0)) part₀
-      → putWord a (mergeWord (wordAt part a) (wordAt pixels (slot * 32 + 4 * w)) mask (tag / 2 ^ (4 * w))) part
-      ≡ update (4 * (w + 1)) (λ i. inBank page (inPage k i)) (backByte mask tag (λ i. getD pixels (inSlot slot i) 0)) part₀
-  back-turn mask tag pixels part₀ part fit fit' e =
-      word-turn w a _ (λ i. inBank page (inPage k i)) (backByte mask tag (λ i. getD pixels (inSlot slot i) 0)) part₀ part e
-      block-word (λ n h. back-word part pixels a slot mask tag w n fit fit' h)
+      → (x : ℕ) → x ≡ mergeWord (wordAt part a) (wordAt pixels (slot * 32 + 4 * w)) mask (tag / 2 ^ (4 * w))
+      → putWord a x part ≡ update (4 * (w + 1)) (λ i. inBank page (inPage k i)) (backByte mask tag (λ i. getD pixels (inSlot slot i) 0)) part₀
+  back-turn mask tag pixels part₀ part fit fit' e x merged =
+      word-turn w a x (λ i. inBank page (inPage k i)) (backByte mask tag (λ i. getD pixels (inSlot slot i) 0)) part₀ part e
+      block-word (λ n h. rw merged (back-word part pixels a slot mask tag w n fit fit' h))
