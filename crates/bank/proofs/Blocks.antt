@@ -46,9 +46,9 @@ pub back-word : (part pixels : List ℕ) (a slot mask tag w n : ℕ)
     ≡ backByte mask tag (λ i. getD pixels (inSlot slot i) 0) (4 * w + n) (getD part (a + n) 0)
 unfolding backByte
 back-word part pixels a slot mask tag w n fit fit' h =
-    let place : (4 * w + n) % 4 ≡ n = omega arith in
     byte-merge (wordAt part a) (wordAt pixels (slot * 32 + 4 * w)) mask (tag / 2 ^ (4 * w)) n h
-    ∙ rw (bit-shr tag (4 * w) n, byte-word-at part a fit n h, byte-word-at pixels (slot * 32 + 4 * w) fit' n h, place, slot-word-at slot w n)
+    ∙ rw (bit-shr tag (4 * w) n, byte-word-at part a fit n h, byte-word-at pixels (slot * 32 + 4 * w) fit' n h, slot-word-at slot w n)
+    (ap (λ (place : ℕ). mergeByte (bit tag (4 * w + n)) (byte mask place) (getD part (a + n) 0) (getD pixels (slot * 32 + 4 * w + n) 0)) (omega arith))
 
 -- ---- one turn of a loop over the words of a block: word w, which starts at a
 

@@ -1,30 +1,45 @@
 -- The laws of a number of 16 or of 32 bits in a list of bytes: what is read where, what is left, and the bytes. Assumes nothing.
-use mathlib.Core.Path.{_≡_, refl, sym, ap, _∙_}
-use mathlib.Core.Logic.{_≢_}
+use mathlib.Core.Path.{_≡_, sym, ap, _∙_}
 use mathlib.Core.List.{List}
 use Prim.Native.Nat.{ℕ, zero, suc, _+_, _*_, _/_, _%_, _^_, _<_, _≤_}
-use native.Mathlib.Nat.{add-zero, add-assoc, mul-add, div-one}
+use native.Mathlib.Nat.{add-zero, add-assoc, mul-add, div-one, mod-eq-of-lt}
 use native.Mathlib.Omega.{arith}
 use lib.Dec.{lit<}
 use lib.ListN.{length, getD, set, take, drop}
+use lib.Pow.{shr-lt}
 use lib.Seq.{getD-drop}
-use Rattle.bits.specs.Bits.{byte, joined, wordIn}
+use Rattle.bits.specs.Bits.{byte, wordIn}
 use Rattle.bits.proofs.Bytes.{join-bytes, joined-lt, byte-joined-0, byte-joined-1, byte-joined-2, byte-joined-3}
 use Rattle.bits.proofs.Laws.{byte-lt}
 use Rattle.bank.specs.Update.{update}
 use Rattle.bank.specs.Work.{inSlot}
 use Rattle.bank.specs.Words.{halfAt, putHalf, wordAt, putWord}
-use Rattle.bank.proofs.Updates.{length-update, update-same, update-other, update-at, update-ext, update-more, update-all, drop-update, drop-update-before, take-update-after}
+use Rattle.bank.proofs.Updates.{
+  length-update,
+  update-same,
+  update-other,
+  update-at,
+  update-ext,
+  update-more,
+  update-all,
+  drop-update,
+  drop-update-before,
+  take-update-after,
+}
 
 -- the byte stores of code, one after the other
-pub half-stores : (p x : ℕ) (s : List ℕ) → set (set s p (x % 256)) (p + 1) (x / 256 % 256) ≡ putHalf p x s
+pub half-stores : (p x : ℕ) (s : List ℕ) → x < 2 ^ 16 → set (set s p (x % 256)) (p + 1) (x / 256) ≡ putHalf p x s
 unfolding putHalf update byte
-half-stores p x s = rw (add-zero p, div-one x)
+half-stores p x s h =
+    let high : x / 256 % 256 ≡ x / 256 = mod-eq-of-lt (shr-lt 8 8 h) in
+    rw (add-zero p, div-one x, high)
 
-pub word-stores : (p x : ℕ) (s : List ℕ)
-    → set (set (set (set s p (x % 256)) (p + 1) (x / 256 % 256)) (p + 2) (x / 65536 % 256)) (p + 3) (x / 16777216 % 256) ≡ putWord p x s
+pub word-stores : (p x : ℕ) (s : List ℕ) → x < 2 ^ 32
+    → set (set (set (set s p (x % 256)) (p + 1) (x / 256 % 256)) (p + 2) (x / 65536 % 256)) (p + 3) (x / 16777216) ≡ putWord p x s
 unfolding putWord update byte
-word-stores p x s = rw (add-zero p, div-one x)
+word-stores p x s h =
+    let high : x / 16777216 % 256 ≡ x / 16777216 = mod-eq-of-lt (shr-lt 8 24 h) in
+    rw (add-zero p, div-one x, high)
 
 -- ---- a number is its bytes
 

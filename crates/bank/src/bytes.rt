@@ -1,5 +1,5 @@
 // Numbers of 16 and of 32 bits in bytes, little endian. The definitions are specs/Words.antt.
-// Four byte accesses side by side become one access of the machine.
+// Byte accesses side by side become one access of the machine.
 ghost use mathlib.Core.Path.{_≡_};
 ghost use Prim.Native.Nat.{_+_, _*_, _^_, _<_};
 ghost use lib.ListN.{length};
@@ -40,8 +40,8 @@ pub fn put_half(s: &mut [u8], at: usize, x: u16)
     requires { ⌜ at + 1 < length (now s) ⌝ }
     ensures { λ _. ⌜ now (s .exit) ≡ putHalf at x (now (s .entry)) ⌝ }
 {
-    s[at] = (x % 256) as u8;
-    s[at + 1] = (x / 0x100 % 256) as u8;
+    s[at] = (x % 0x100) as u8;
+    s[at + 1] = (x / 0x100) as u8;
 }
 
 // 32 bits put at a place.
@@ -49,8 +49,8 @@ pub fn put_word(s: &mut [u8], at: usize, x: u32)
     requires { ⌜ at + 3 < length (now s) ⌝ }
     ensures { λ _. ⌜ now (s .exit) ≡ putWord at x (now (s .entry)) ⌝ }
 {
-    s[at] = (x % 256) as u8;
-    s[at + 1] = (x / 0x100 % 256) as u8;
-    s[at + 2] = (x / 0x1_0000 % 256) as u8;
-    s[at + 3] = (x / 0x100_0000 % 256) as u8;
+    s[at] = (x % 0x100) as u8;
+    s[at + 1] = (x / 0x100 % 0x100) as u8;
+    s[at + 2] = (x / 0x1_0000 % 0x100) as u8;
+    s[at + 3] = (x / 0x100_0000) as u8;
 }

@@ -6,7 +6,8 @@ use Rattle.bank.proofs.bytes.put_half.Statement.{statement}
 use Rattle.bank.proofs.bytes.put_half.Tie as tie
 
 returns : tie.Need-returns
-returns c = half-stores (c .args .at) (c .args .x) (now (c .args .s))
+returns c = half-stores (c .args .at) (c .args .x) (now (c .args .s)) (c .fits .x .fits)
 
 pub put-half-spec : {M : Type 1} → statement M
-put-half-spec = tie.close (tie.spec (λ c. search needs) (λ c. search needs) (λ c. search needs) (λ c. search needs) (λ c. search needs) (λ c. search needs) returns)
+put-half-spec = tie.close
+    (tie.spec (λ c. search needs) (λ c. search needs) (λ c. search needs) (λ c. search needs) (λ c. search needs) (λ c. search needs) returns)

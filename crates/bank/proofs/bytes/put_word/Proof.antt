@@ -8,7 +8,10 @@ use Rattle.bank.proofs.bytes.put_word.Statement.{statement}
 use Rattle.bank.proofs.bytes.put_word.Tie as tie
 
 returns : tie.Need-returns
-returns c = word-stores (c .args .at) (c .args .x) (now (c .args .s))
+returns c = word-stores (c .args .at) (c .args .x) (now (c .args .s)) (c .fits .x .fits)
 
 pub put-word-spec : {M : Type 1} → statement M
-put-word-spec = tie.close (tie.spec (λ c. search needs) (λ c. search needs) (λ c. search needs) (λ c. search needs) (λ c. simp length-set (omega arith)) (λ c. search needs) (λ c. search needs) (λ c. simp length-set (omega arith)) (λ c. search needs) (λ c. search needs) (λ c. search needs) (λ c. search needs) returns)
+put-word-spec = tie.close
+    (tie.spec (λ c. search needs) (λ c. search needs) (λ c. search needs) (λ c. search needs) (λ c. simp length-set (omega arith))
+    (λ c. search needs) (λ c. search needs) (λ c. simp length-set (omega arith)) (λ c. search needs) (λ c. search needs) (λ c. search needs)
+    (λ c. search needs) returns)
