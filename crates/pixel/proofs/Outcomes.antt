@@ -1,0 +1,147 @@
+-- What a data write comes to, of each kind; what it leaves at its destination; and where that is. Assumes nothing.
+use mathlib.Core.Path.{_≡_, refl, sym, _∙_}
+use mathlib.Core.Bool.{Bool, true, false, cond, not, _&&_, and-true, and-false}
+use mathlib.Core.List.{List}
+use Prim.Native.Nat.{ℕ, zero, suc, _/_, _^_, _<_}
+use native.Mathlib.Nat.{mod-lt}
+use native.Mathlib.Omega.{arith}
+use lib.Dec.{lit<}
+use Rattle.bits.specs.Bits.{bit, byte, merge}
+use Rattle.bits.proofs.Laws.{bit-zero, word-ext}
+use Rattle.bits.proofs.Merges.{merge-lt}
+use Rattle.pixel.specs.declared.Write.{Write}
+use Rattle.pixel.specs.Pixel.{matchPasses, magnitudePasses, enabledBy, codeOf, fromConstant, newWord, rasterWord, mergeWord}
+use Rattle.pixel.specs.Registers.{
+  register,
+  planeMask,
+  constantSource,
+  matchMask,
+  magnitudeMask,
+  ropControl,
+  compareControl,
+  writeAddressControl,
+  freshRegisters,
+}
+use Rattle.pixel.specs.Writes.{used, intoSlot, intoWord, passesMatch, passesMagnitude, passOut, enabled, hits, taken, result, newByte, outcomeOf}
+use Rattle.pixel.proofs.Functions.{gc}
+use Rattle.pixel.proofs.Uses.{bit-raster, bit-new, merge-outside, merge-none, byte-merge}
+
+-- ---- a stateful write
+
+-- it uses the registers as they are
+pub used-stateful : (registers : List ℕ) (w : Write) → w .stateless ≡ false → used registers w ≡ registers
+unfolding used
+used-stateful registers w stateful = rw stateful
+
+module _ (registers : List ℕ) (w : Write) (stateful : w .stateless ≡ false) (old : ℕ) where
+  pub hits-stateful : hits registers w old ≡ enabled registers w old
+  unfolding hits
+  hits-stateful = rw stateful
+
+  pub stateful-law : (dest : ℕ) → outcomeOf registers w old dest ≡ (
+      let matched = matchPasses (compareControl registers) (matchMask registers) old (w .given) (constantSource registers) in
+      let magnitude = magnitudePasses (compareControl registers) (magnitudeMask registers) old (w .given) (constantSource registers) in
+      let on = enabledBy (compareControl registers) (w .passin) matched magnitude in
+      let new = newWord (ropControl registers) (w .given) (constantSource registers) in
+      record {
+        pass = matched && magnitude;
+        written = on;
+        taken = cond on (w .enables) 0;
+        word = mergeWord dest (rasterWord (ropControl registers) new old) (planeMask registers) (cond on (w .enables) 0);
+      })
+  unfolding outcomeOf passOut enabled taken result passesMatch passesMagnitude used
+  stateful-law dest = rw stateful
+
+-- ---- a stateless write
+
+-- what holds of each byte of a word
+each : (P : ℕ → Type 0) → P 0 → P 1 → P 2 → P 3 → (n : ℕ) → n < 4 → P n
+each P a b c d zero h = a
+each P a b c d (suc zero) h = b
+each P a b c d (suc (suc zero)) h = c
+each P a b c d (suc (suc (suc zero))) h = d
+each P a b c d (suc (suc (suc (suc n)))) h = absurd (omega arith)
+
+-- the fresh ROP control copies the data in all bytes
+fresh-code : (n : ℕ) → n < 4 → codeOf 0x0303_0303 n ≡ 3
+unfolding codeOf
+fresh-code = each (λ n. codeOf 0x0303_0303 n ≡ 3) refl refl refl refl
+
+fresh-data : (n : ℕ) → n < 4 → fromConstant 0x0303_0303 n ≡ false
+unfolding fromConstant bit
+fresh-data = each (λ n. fromConstant 0x0303_0303 n ≡ false) refl refl refl refl
+
+fresh-raster : (given constant old k : ℕ) → k < 32 → bit (rasterWord 0x0303_0303 (newWord 0x0303_0303 given constant) old) k ≡ bit given k
+fresh-raster given constant old k h =
+    let q : k / 8 < 4 = omega arith in
+    simp (bit-raster, bit-new, fresh-code, fresh-data) (gc .3 (bit given k) (bit old k))
+
+fresh-merge : (given constant old dest mask bytes : ℕ)
+    → mergeWord dest (rasterWord 0x0303_0303 (newWord 0x0303_0303 given constant) old) mask bytes ≡ mergeWord dest given mask bytes
+unfolding mergeWord merge
+fresh-merge given constant old dest mask bytes = word-ext 32 _ _ (λ k h. rw (fresh-raster given constant old k h))
+
+module _ (registers : List ℕ) (w : Write) (stateless : w .stateless ≡ true) (old : ℕ) where
+  pub hits-stateless : hits registers w old ≡ false
+  unfolding hits
+  hits-stateless = rw stateless
+
+  pub stateless-law : (dest : ℕ) → outcomeOf registers w old dest ≡ record {
+    pass = true;
+    written = true;
+    taken = w .enables;
+    word = mergeWord dest (w .given) 0xffff_ffff (w .enables);
+  }
+  unfolding outcomeOf passOut enabled taken result used register freshRegisters
+  stateless-law dest =
+      rw stateless (λ i. record { pass = true; written = true; taken = w .enables; word = fresh-merge (w .given) (register registers 2) old dest 0xffff_ffff (w .enables) i })
+
+-- ---- what it leaves at its destination
+
+module _ (registers : List ℕ) (w : Write) (old dest : ℕ) where
+  -- each byte by itself
+  pub byte-outcome : (n : ℕ) → n < 4 → byte (outcomeOf registers w old dest .word) n ≡ newByte registers w old n (byte dest n)
+  unfolding outcomeOf newByte
+  byte-outcome n h = byte-merge dest (result registers w old) (planeMask (used registers w)) (taken registers w old) n h
+
+  -- bits outside the plane mask are the destination's
+  pub outcome-outside : (k : ℕ) → k < 32 → bit (planeMask (used registers w)) k ≡ false → bit (outcomeOf registers w old dest .word) k ≡ bit dest k
+  unfolding outcomeOf
+  outcome-outside k h e = merge-outside dest (result registers w old) (planeMask (used registers w)) (taken registers w old) k h e
+
+  -- where no byte is taken, nothing changes
+  pub outcome-none : taken registers w old ≡ 0 → dest < 2 ^ 32 → outcomeOf registers w old dest .word ≡ dest
+  unfolding outcomeOf
+  outcome-none e h = rw e (merge-none dest (result registers w old) (planeMask (used registers w)) h)
+
+  pub outcome-lt : outcomeOf registers w old dest .word < 2 ^ 32
+  unfolding outcomeOf mergeWord
+  outcome-lt = merge-lt 32 _ dest (result registers w old)
+
+-- of two numbers below n, either is
+either-lt : (b : Bool) {n x y : ℕ} → x < n → y < n → cond b x y < n
+either-lt true h q = h
+either-lt false h q = q
+
+pub taken-lt : (registers : List ℕ) (w : Write) (old : ℕ) → w .enables < 16 → taken registers w old < 16
+unfolding taken
+taken-lt registers w old h = either-lt (enabled registers w old) h (lit< tt)
+
+-- ---- where it writes
+
+-- write address control acts in a stateful write alone
+pub by-data-law : (registers : List ℕ) (w : Write) → bit (writeAddressControl (used registers w)) 0 ≡ (bit (writeAddressControl registers) 0 && not (w .stateless))
+unfolding used register freshRegisters
+by-data-law registers w = go (w .stateless) refl
+  where
+    go : (b : Bool) → w .stateless ≡ b → bit (writeAddressControl (used registers w)) 0 ≡ (bit (writeAddressControl registers) 0 && not (w .stateless))
+    go true e = rw e (bit-zero 0 ∙ sym (and-false (bit (writeAddressControl registers) 0)))
+    go false e = rw e (sym (and-true (bit (writeAddressControl registers) 0)))
+
+pub into-slot-lt : (n : ℕ) (registers : List ℕ) (w : Write) → w .slot < n → intoSlot n registers w < n
+unfolding intoSlot
+into-slot-lt n registers w h = either-lt (bit (writeAddressControl (used registers w)) 0) (mod-lt (w .given / 2 ^ 27) (omega arith)) h
+
+pub into-word-lt : (registers : List ℕ) (w : Write) → w .word < 8 → intoWord registers w < 8
+unfolding intoWord
+into-word-lt registers w h = either-lt (bit (writeAddressControl (used registers w)) 0) (mod-lt (w .given / 2 ^ 24) (lit< tt)) h
