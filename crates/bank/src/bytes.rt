@@ -3,7 +3,6 @@
 ghost use mathlib.Core.Path.{_≡_};
 ghost use Prim.Native.Nat.{_+_, _*_, _^_, _<_};
 ghost use lib.ListN.{length};
-ghost use Rattle.bits.specs.Bits.{joined};
 ghost use Rattle.bank.specs.Words.{halfAt, putHalf, wordAt, putWord};
 
 // The bytes come as numbers of their own, so that their range is known.
@@ -11,12 +10,6 @@ fn join_two(a: u8, b: u8) -> u16
     ensures { λ r. ⌜ r ≡ a + b * 2 ^ 8 ⌝ }
 {
     (a as u16) + 0x100 * (b as u16)
-}
-
-fn join(a: u8, b: u8, c: u8, d: u8) -> u32
-    ensures { λ r. ⌜ r ≡ joined a b c d ⌝ }
-{
-    (a as u32) + 0x100 * (b as u32) + 0x1_0000 * (c as u32) + 0x100_0000 * (d as u32)
 }
 
 // The 16 bits at a place.
@@ -32,7 +25,7 @@ pub fn word_at(s: &[u8], at: usize) -> u32
     requires { ⌜ at + 3 < length (now s) ⌝ }
     ensures { λ r. ⌜ r ≡ wordAt (now (s .entry)) at ⌝ }
 {
-    join(s[at], s[at + 1], s[at + 2], s[at + 3])
+    bits::join(s[at], s[at + 1], s[at + 2], s[at + 3])
 }
 
 // 16 bits put at a place.
