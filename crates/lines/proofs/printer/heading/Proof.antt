@@ -1,0 +1,12 @@
+-- `lines::printer::heading` meets its contract, by computation. Assumes nothing.
+use mathlib.Core.Path.{refl}
+use Rattle.lines.specs.Printing.{header}
+use Rattle.lines.proofs.printer.heading.Statement.{statement}
+use Rattle.lines.proofs.printer.heading.Tie as tie
+
+returns : tie.Need-returns
+unfolding header
+returns c = refl
+
+pub heading-spec : {M : Type 1} → statement M
+heading-spec = tie.close (tie.spec returns)
