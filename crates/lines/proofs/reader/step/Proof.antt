@@ -8,7 +8,7 @@ use Rattle.lines.proofs.reader.step.Tie as tie
 returns : tie.Need-returns
 returns c =
     let a = c .before .before .args in
-    cc (byte-space (a .reader) (a .byte) (c .before .if1 .taken))
+    cc (byte-space (a .reader) (a .byte) (omega arith))
 
 returns-2 : tie.Need-returns-2
 returns-2 c =
