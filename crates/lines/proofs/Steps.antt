@@ -4,10 +4,11 @@ use mathlib.Core.Bool.{Bool, true, false, cond, _&&_}
 use Prim.Native.Nat.{ℕ, _+_, _-_, _*_, _^_, _≤_, _<_}
 use native.Mathlib.Omega.{arith}
 use lib.Dec.{eqb, leb, ltb}
-use borrow.Author.Tests.{lt-ltb, le-ltb, le-leb, lt-leb, eq-eqb, ne-eqb}
+use borrow.Author.Tests.{lt-ltb, le-ltb, le-leb, lt-leb, eq-eqb, ne-eqb, ltb-true}
+use Rattle.layout.proofs.Numbers.{and-left, and-right}
 use Rattle.lines.specs.declared.reader.Reader.{Reader}
 use Rattle.lines.specs.Lines.{isDigit}
-use Rattle.lines.specs.Reading.{spoilt, pushed, afterSpace, afterDigit, afterByte}
+use Rattle.lines.specs.Reading.{spoilt, numberMore, digitMore, afterSpace, afterDigit, afterByte}
 
 -- a test that fails makes the whole fail
 both-fail : (a b : Bool) → b ≡ false → (a && b) ≡ false
@@ -25,8 +26,7 @@ module _ (r : Reader) where
   unfolding afterSpace
   space-too-late h = rw (both-fail (ltb 0 (r .digits)) (ltb (r .whole) 5) (le-ltb (r .whole) 5 h))
 
-  pub space-ends : 0 < r .digits → r .whole < 5
-      → afterSpace r ≡ record { begun = true; sound = r .sound; whole = r .whole + 1; digits = 0; value = 0; call = pushed (r .call) (r .value) }
+  pub space-ends : 0 < r .digits → r .whole < 5 → afterSpace r ≡ numberMore r
   unfolding afterSpace
   space-ends h g = rw (lt-ltb 0 (r .digits) h, lt-ltb (r .whole) 5 g)
 
@@ -40,9 +40,7 @@ module _ (r : Reader) where
   unfolding afterDigit
   digit-too-much x h = rw (both-fail (ltb (r .digits) 10) (ltb (r .value * 10 + (x - 48)) (2 ^ 32)) (le-ltb (r .value * 10 + (x - 48)) (2 ^ 32) h))
 
-  pub digit-taken : (x : ℕ) → r .digits < 10 → r .value * 10 + (x - 48) < 2 ^ 32
-      → afterDigit r x
-      ≡ record { begun = true; sound = r .sound; whole = r .whole; digits = r .digits + 1; value = r .value * 10 + (x - 48); call = r .call }
+  pub digit-taken : (x : ℕ) → r .digits < 10 → r .value * 10 + (x - 48) < 2 ^ 32 → afterDigit r x ≡ digitMore r x
   unfolding afterDigit
   digit-taken x h g = rw (lt-ltb (r .digits) 10 h, lt-ltb (r .value * 10 + (x - 48)) (2 ^ 32) g)
 
@@ -63,3 +61,26 @@ module _ (r : Reader) where
   pub byte-above : (x : ℕ) → 57 < x → afterByte r x ≡ spoilt
   unfolding afterByte isDigit
   byte-above x h = rw (ne-eqb x 32 (λ e. absurd (omega arith)), both-fail (leb 48 x) (leb x 57) (lt-leb x 57 h))
+
+  -- what holds of each of the three that a byte can leave holds after the byte
+  pub byte-cases : (P : Reader → Type 0) (x : ℕ) → P spoilt → P (numberMore r) → (r .digits < 10 → r .value * 10 + (x - 48) < 2 ^ 32 → P (digitMore r x))
+      → P (afterByte r x)
+  unfolding afterByte afterSpace afterDigit
+  byte-cases P x p q f = go (eqb x 32) (isDigit x)
+    where
+      value : ℕ
+      value = r .value * 10 + (x - 48)
+
+      spaced : (t : Bool) → P (cond t (numberMore r) spoilt)
+      spaced true = q
+      spaced false = p
+
+      taken : (t : Bool) → (ltb (r .digits) 10 && ltb value (2 ^ 32)) ≡ t → P (cond t (digitMore r x) spoilt)
+      taken true e = f (ltb-true (r .digits) 10 (and-left (ltb (r .digits) 10) (ltb value (2 ^ 32)) e))
+          (ltb-true value (2 ^ 32) (and-right (ltb (r .digits) 10) (ltb value (2 ^ 32)) e))
+      taken false e = p
+
+      go : (space digit : Bool) → P (cond space (afterSpace r) (cond digit (afterDigit r x) spoilt))
+      go true digit = spaced (ltb 0 (r .digits) && ltb (r .whole) 5)
+      go false true = taken (ltb (r .digits) 10 && ltb value (2 ^ 32)) refl
+      go false false = p

@@ -1,7 +1,7 @@
 -- Reading a line a byte at a time gives what specs/Lines says of the whole line. Assumes nothing.
 use mathlib.Core.Path.{_≡_, refl, sym, ap, _∙_, subst}
 use mathlib.Core.Bool.{Bool, true, false, cond, not, _&&_, and-false, and-true, and-assoc}
-use mathlib.Core.List.{List, [], _∷_}
+use mathlib.Core.List.{List, [], _∷_, _++_}
 use Prim.Native.Nat.{ℕ, zero, suc, _+_, _-_, _*_, _^_, _≤_, _<_}
 use native.Mathlib.Decide.{decLe, decLt, ℕ-discrete}
 use native.Mathlib.Nat.{add-zero, zero-add}
@@ -10,9 +10,8 @@ use native.Mathlib.Numerals.{add-one}
 use lib.Dec.{eqb, leb, ltb, eqb·suc-suc}
 use lib.ListN.{length, getD, drop, drop-of-length-le}
 use lib.Seq.{drop-cons}
-use borrow.Author.Tests.{lt-ltb, le-ltb, le-leb, lt-leb, eq-eqb, ne-eqb, ltb-true, eqb-true}
+use borrow.Author.Tests.{lt-ltb, le-ltb, le-leb, lt-leb, eq-eqb, ne-eqb, eqb-true}
 use Rattle.layout.specs.Numbers.{first, whenDone}
-use Rattle.layout.proofs.Numbers.{and-left, and-right}
 use Rattle.chip.specs.declared.Call.{Call}
 use Rattle.chip.specs.Starred.{ask}
 use Rattle.lines.specs.declared.reader.Reader.{Reader}
@@ -20,7 +19,7 @@ use Rattle.lines.specs.declared.reader.Parsed.{Parsed}
 use Rattle.lines.specs.declared.reader.Parsed.the-variants.{Read, NotALine}
 use Rattle.lines.specs.Lines.{onto, split, isDigit, allDigits, decimal, isNumber, allNumbers, lineNumber, lineCall, parsedOf}
 use Rattle.lines.specs.Reading.{started, spoilt, pushed, afterSpace, afterDigit, afterByte, afterBytes, ended}
-use Rattle.lines.proofs.Steps.{space-too-soon, space-too-late, space-ends, digit-too-many, digit-too-much, digit-taken, byte-space, byte-digit, byte-below, byte-above}
+use Rattle.lines.proofs.Steps.{space-too-soon, space-too-late, space-ends, digit-too-many, digit-too-much, digit-taken, byte-space, byte-digit, byte-below, byte-above, byte-cases}
 
 -- ---- a line that goes on where a reader stands: its first piece goes on with the number that is being read
 
@@ -95,25 +94,13 @@ abbrev Bounded : Reader → Type 0
 Bounded r = (r .digits ≤ 10) × (r .value < 2 ^ 32)
 
 stays-bounded : (r : Reader) (x : ℕ) → Bounded r → Bounded (afterByte r x)
-unfolding afterByte afterSpace afterDigit
-stays-bounded r x b = go (eqb x 32) (isDigit x)
-  where
-    value : ℕ
-    value = r .value * 10 + (x - 48)
+stays-bounded r x b = byte-cases r Bounded x (omega arith) (omega arith) (λ h g. omega arith)
 
-    spaced : (t : Bool) → Bounded (cond t (record { begun = true; sound = r .sound; whole = r .whole + 1; digits = 0; value = 0; call = pushed (r .call) (r .value) }) spoilt)
-    spaced true = omega arith
-    spaced false = omega arith
-
-    taken : (t : Bool) → (ltb (r .digits) 10 && ltb value (2 ^ 32)) ≡ t
-        → Bounded (cond t (record { begun = true; sound = r .sound; whole = r .whole; digits = r .digits + 1; value = value; call = r .call }) spoilt)
-    taken true e = omega (arith, ltb-true (r .digits) 10 (and-left (ltb (r .digits) 10) (ltb value (2 ^ 32)) e), ltb-true value (2 ^ 32) (and-right (ltb (r .digits) 10) (ltb value (2 ^ 32)) e))
-    taken false e = omega arith
-
-    go : (space digit : Bool) → Bounded (cond space (afterSpace r) (cond digit (afterDigit r x) spoilt))
-    go true digit = spaced (ltb 0 (r .digits) && ltb (r .whole) 5)
-    go false true = taken (ltb (r .digits) 10 && ltb value (2 ^ 32)) refl
-    go false false = omega arith
+-- some bytes, and then others
+pub bytes-append : (r : Reader) (a b : List ℕ) → afterBytes r (a ++ b) ≡ afterBytes (afterBytes r a) b
+unfolding afterBytes
+bytes-append r [] b = refl
+bytes-append r (x ∷ a) b = bytes-append (afterByte r x) a b
 
 -- a turn of a loop over the bytes of a list, and its end
 pub one-more : (r : Reader) (l : List ℕ) (i : ℕ) → i < length l → afterBytes r (drop i l) ≡ afterBytes (afterByte r (getD l i 0)) (drop (i + 1) l)
@@ -125,7 +112,7 @@ unfolding afterBytes
 none-left r l i h = rw (drop-of-length-le l h)
 
 -- a line has at least one piece
-some-piece : (mark : ℕ) (line : List ℕ) → 1 ≤ length (split mark line)
+pub some-piece : (mark : ℕ) (line : List ℕ) → 1 ≤ length (split mark line)
 unfolding split
 some-piece mark [] = omega arith
 some-piece mark (x ∷ line) = go (eqb x mark) (split mark line)
@@ -149,6 +136,13 @@ read-from (x ∷ line) r b = read-from line (afterByte r x) (stays-bounded r x b
     turn : (pieces : List (List ℕ)) → 1 ≤ length pieces → continued (afterByte r x) pieces ≡ continued r (cond (eqb x 32) ([] ∷ pieces) (onto x pieces))
     turn [] h = absurd (omega arith)
     turn (p ∷ ps) h = at-byte r (b .0) (b .1) p ps x
+
+-- ---- a line has begun once it has a byte
+
+pub bytes-begin : (r : Reader) (x : ℕ) (line : List ℕ) → afterBytes r (x ∷ line) .begun ≡ true
+unfolding afterBytes
+bytes-begin r x [] = byte-cases r (λ q. q .begun ≡ true) x refl refl (λ h g. refl)
+bytes-begin r x (y ∷ line) = bytes-begin (afterByte r x) y line
 
 -- ---- from the start
 

@@ -27,18 +27,18 @@ abbrev pub pushed : Call → ℕ → Call
 pushed call number = ask (call .a) (call .b) (call .c) (call .d) (call .given) number
 
 -- a space ends a number, which has a digit and is not the sixth
+abbrev pub numberMore : Reader → Reader
+numberMore r = record { begun = true; sound = r .sound; whole = r .whole + 1; digits = 0; value = 0; call = pushed (r .call) (r .value) }
+
 unfoldable pub afterSpace : Reader → Reader
-afterSpace r = cond (ltb 0 (r .digits) && ltb (r .whole) 5)
-    (record { begun = true; sound = r .sound; whole = r .whole + 1; digits = 0; value = 0; call = pushed (r .call) (r .value) })
-    spoilt
+afterSpace r = cond (ltb 0 (r .digits) && ltb (r .whole) 5) (numberMore r) spoilt
 
 -- a digit more of a number: at most ten, and below 2^32
+abbrev pub digitMore : Reader → ℕ → Reader
+digitMore r x = record { begun = true; sound = r .sound; whole = r .whole; digits = r .digits + 1; value = r .value * 10 + (x - 48); call = r .call }
+
 unfoldable pub afterDigit : Reader → ℕ → Reader
-afterDigit r x =
-    let value = r .value * 10 + (x - 48) in
-    cond (ltb (r .digits) 10 && ltb value (2 ^ 32))
-    (record { begun = true; sound = r .sound; whole = r .whole; digits = r .digits + 1; value = value; call = r .call })
-    spoilt
+afterDigit r x = cond (ltb (r .digits) 10 && ltb (r .value * 10 + (x - 48)) (2 ^ 32)) (digitMore r x) spoilt
 
 -- a byte more of a line
 unfoldable pub afterByte : Reader → ℕ → Reader
