@@ -1,16 +1,16 @@
 -- Reading a line a byte at a time gives what specs/Lines says of the whole line. Assumes nothing.
-use mathlib.Core.Path.{_≡_, refl, sym, ap, _∙_, subst}
+use mathlib.Core.Path.{_≡_, refl, ap, _∙_}
 use mathlib.Core.Bool.{Bool, true, false, cond, not, _&&_, and-false, and-true, and-assoc}
 use mathlib.Core.List.{List, [], _∷_, _++_}
-use Prim.Native.Nat.{ℕ, zero, suc, _+_, _-_, _*_, _^_, _≤_, _<_}
-use native.Mathlib.Decide.{decLe, decLt, ℕ-discrete}
+use Prim.Native.Nat.{ℕ, suc, _+_, _-_, _*_, _^_, _≤_, _<_}
+use native.Mathlib.Decide.{decLt}
 use native.Mathlib.Nat.{add-zero, zero-add}
 use native.Mathlib.Omega.{arith}
 use native.Mathlib.Numerals.{add-one}
 use lib.Dec.{eqb, leb, ltb, eqb·suc-suc}
 use lib.ListN.{length, getD, drop, drop-of-length-le}
 use lib.Seq.{drop-cons}
-use borrow.Author.Tests.{lt-ltb, le-ltb, le-leb, lt-leb, eq-eqb, ne-eqb, eqb-true}
+use borrow.Author.Tests.{lt-ltb, le-ltb, le-leb, lt-leb, ne-eqb, eqb-true}
 use Rattle.layout.specs.Numbers.{first, whenDone}
 use Rattle.chip.specs.declared.Call.{Call}
 use Rattle.chip.specs.Starred.{ask}
@@ -19,7 +19,7 @@ use Rattle.lines.specs.declared.reader.Parsed.{Parsed}
 use Rattle.lines.specs.declared.reader.Parsed.the-variants.{Read, NotALine}
 use Rattle.lines.specs.Lines.{onto, split, isDigit, allDigits, decimal, isNumber, allNumbers, lineNumber, lineCall, parsedOf}
 use Rattle.lines.specs.Reading.{started, spoilt, pushed, afterSpace, afterDigit, afterByte, afterBytes, ended}
-use Rattle.lines.proofs.Steps.{space-too-soon, space-too-late, space-ends, digit-too-many, digit-too-much, digit-taken, byte-space, byte-digit, byte-below, byte-above, byte-cases}
+use Rattle.lines.proofs.Steps.{space-too-soon, space-too-late, space-ends, digit-too-many, digit-too-much, digit-taken, byte-cases}
 
 -- ---- a line that goes on where a reader stands: its first piece goes on with the number that is being read
 

@@ -2,7 +2,7 @@
 use mathlib.Core.Bool.{Bool, true, false, cond, _&&_}
 use mathlib.Core.List.{List, [], _∷_}
 use Prim.Native.Nat.{ℕ, _+_, _-_, _*_, _^_}
-use lib.Dec.{eqb, leb, ltb}
+use lib.Dec.{eqb, ltb}
 use Rattle.chip.specs.declared.Call.{Call}
 use Rattle.chip.specs.Starred.{ask}
 use Rattle.lines.specs.declared.reader.Reader.{Reader}
