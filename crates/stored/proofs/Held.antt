@@ -4,7 +4,7 @@ use mathlib.Core.Bool.{Bool, true, false}
 use mathlib.Core.List.{List, [], _∷_, _++_}
 use Prim.Native.Nat.{ℕ, zero, suc, _+_, _-_, _*_, _/_, _%_, _^_, _<_, _≤_}
 use native.Mathlib.Omega.{arith}
-use native.Mathlib.Nat.{mod-lt}
+use native.Mathlib.Nat.{mod-lt, add-assoc}
 use lib.Dec.{lit<, lit≤}
 use lib.Pow.{pow-pos}
 use lib.ListN.{length, getD, set, take, drop, length-drop}
@@ -13,7 +13,7 @@ use Rattle.bits.specs.Bits.{bit, byte, digit}
 use Rattle.bits.proofs.Laws.{byte-lt}
 use Rattle.bank.specs.Update.{update}
 use Rattle.bank.specs.Words.{halfAt, putHalf, wordAt, putWord}
-use Rattle.bank.proofs.Updates.{length-update, update-all, update-other, drop-update}
+use Rattle.bank.proofs.Updates.{length-update, update-all, update-at, update-other, drop-update}
 use Rattle.bank.proofs.Words.{half-put-same, word-put-same, length-put-half, length-put-word, bytes-put-half, bytes-put-word}
 use Rattle.chip.specs.declared.Control.{Control}
 use Rattle.chip.specs.declared.Chip.{Chip}
@@ -288,3 +288,9 @@ module _ {s : List ℕ} {c : Control} {pixels : List ℕ} (h : Held s c pixels) 
             (words-alike 8 s' s 60 (head 60 92 (lit≤ tt)) ∙ tags-read);
         rest = drop-update n 92 at v s ∙ ap (update n at v) (h .rest);
       }
+
+  -- a word of them
+  pub held-word : (q x : ℕ) → Held (putWord (pixelsAt + q) x s) c (putWord q x pixels)
+  unfolding putWord
+  held-word q x = rw (update-at 4 (λ n. pixelsAt + q + n) (λ n. pixelsAt + (q + n)) (λ n was. byte x n) s (λ n hn. add-assoc pixelsAt q n))
+      (held-pixels 4 (λ n. q + n) (λ n was. byte x n) (λ i y hi hy. byte-lt x i))

@@ -1,0 +1,7 @@
+pub mod Rows
+pub mod Owns
+pub mod Zeros
+pub mod Changes
+pub mod Settings
+pub mod Draws
+pub mod Wholes

@@ -1,0 +1,79 @@
+-- A call's own line, and the refusals in front of it, are the call on a block as a whole. Assumes nothing.
+use mathlib.Core.Path.{_≡_, refl, sym, ap, _∙_}
+use mathlib.Core.Bool.{Bool, true, false, cond, not, _&&_}
+use mathlib.Core.List.{List, [], _∷_}
+use Prim.Native.Nat.{ℕ, zero, suc, _^_, _<_, _≤_}
+use lib.Dec.{eqb, leb}
+use lib.ListN.{length, getD, drop}
+use borrow.Author.Tests.{eq-eqb, le-leb, lt-leb}
+use Rattle.layout.specs.Numbers.{first, whenDone}
+use Rattle.layout.specs.Memory.{size}
+use Rattle.chip.specs.declared.Call.{Call}
+use Rattle.chip.specs.declared.Control.{Control}
+use Rattle.chip.specs.declared.Answer.{Answer}
+use Rattle.chip.specs.declared.Answer.the-variants.{Refused}
+use Rattle.chip.specs.declared.Refusal.the-variants.{IllFormed, MemoryLength, UnknownOperation}
+use Rattle.chip.specs.State.{slots, wellFormed}
+use Rattle.chip.specs.Operations.{Operation, row, operation}
+use Rattle.chip.specs.Steps.{memory-after}
+use Rattle.chip.specs.Answers.{refusalOf}
+use Rattle.chip.specs.Refusals.{number}
+use Rattle.chip.specs.Calls.{readIn, actedWith, pixelsWith, memoryWith, answeredWith, answeredOf, memoryLeft, memoryOf}
+use Rattle.stored.specs.Block.{encode, decodeControl, decode, wellFormedBlock}
+use Rattle.stored.specs.Doors.{blockAnswer, blockAfter, blockMemory}
+use Rattle.stored.proofs.RoundTrip.{encode-decode}
+use Rattle.calls.specs.Own.{ownNumber, ownAnswer, ownBlock, ownMemory}
+use Rattle.calls.proofs.Changes.{well-control}
+
+-- what a call on a block comes to
+abbrev pub Comes : List ℕ → List ℕ → Call → Answer → List ℕ → List ℕ → Type 0
+Comes s memory x a s' memory' = (a ≡ blockAnswer s memory x) × (s' ≡ blockAfter s memory x) × (memory' ≡ blockMemory s memory x)
+
+pub ill-formed : (s memory : List ℕ) (x : Call) → wellFormedBlock s ≡ false → Comes s memory x (Refused IllFormed) s memory
+unfolding blockAnswer blockAfter blockMemory
+ill-formed s memory x e = (rw e, rw e, rw e)
+
+module _ (s memory : List ℕ) (x : Call) (bytes : (a : ℕ) → getD s a 0 < 2 ^ 8) (well : wellFormedBlock s ≡ true) where
+  -- by the number that the definitions give
+  refusal : {k : ℕ} → number slots (decodeControl s) (length memory) x ≡ suc k → Comes s memory x (Refused (refusalOf (suc k))) s memory
+  unfolding blockAnswer blockAfter blockMemory answeredOf answeredWith actedWith pixelsWith memoryOf memoryLeft memoryWith decode
+  refusal e = (rw (well, e), rw (well, e) (sym (unfold decode in encode-decode s bytes well)), rw (well, e))
+
+  pub wrong-length : eqb (length memory) (size (decodeControl s .pages)) ≡ false → Comes s memory x (Refused MemoryLength) s memory
+  unfolding refusalOf
+  wrong-length e = refusal {k = 1} (unfold number first in rw (well-control s well, e))
+
+  module _ (sized : length memory ≡ size (decodeControl s .pages)) where
+    pub unknown : (leb 1 (x .op) && leb (x .op) 15) ≡ false → Comes s memory x (Refused UnknownOperation) s memory
+    unfolding refusalOf
+    unknown e = refusal {k = 2} (unfold number first in rw (well-control s well, eq-eqb _ _ sized, e))
+
+    number-own : 1 ≤ x .op → x .op ≤ 15 → number slots (decodeControl s) (length memory) x ≡ ownNumber s x
+    unfolding number first ownNumber
+    number-own l h = rw (well-control s well, eq-eqb _ _ sized, le-leb 1 (x .op) l, le-leb (x .op) 15 h)
+
+    done : number slots (decodeControl s) (length memory) x ≡ 0 → ownNumber s x ≡ 0
+        → Comes s memory x (ownAnswer s x) (ownBlock s memory x) (ownMemory s memory x)
+    unfolding ownAnswer ownBlock ownMemory blockAnswer blockAfter blockMemory answeredOf answeredWith actedWith pixelsWith memoryOf memoryLeft memoryWith decode
+    done n e = (rw (well, n, e), rw (well, n, e), rw (well, n, e))
+
+    pub known : 1 ≤ x .op → x .op ≤ 15 → Comes s memory x (ownAnswer s x) (ownBlock s memory x) (ownMemory s memory x)
+    unfolding ownAnswer ownBlock ownMemory
+    known l h = go (ownNumber s x) refl
+      where
+        go : (k : ℕ) → ownNumber s x ≡ k → Comes s memory x (ownAnswer s x) (ownBlock s memory x) (ownMemory s memory x)
+        go zero e = done (number-own l h ∙ e) e
+        go (suc k) e = rw e (refusal (number-own l h ∙ e))
+
+-- an operation that does nothing to memory leaves it, done or refused
+pub untouched : (s memory : List ℕ) (x : Call) (o : Operation) (unused : List ℕ) → row x ≡ (o, unused)
+    → memory-after (decodeControl s) (drop 92 s) memory o ≡ memory → memory ≡ ownMemory s memory x
+unfolding ownMemory
+untouched s memory x o unused r e = go (ownNumber s x)
+  where
+    is : operation x ≡ o
+    is = unfold operation in ap (λ (p : Operation × List ℕ). p .0) r
+
+    go : (k : ℕ) → memory ≡ whenDone k (memory-after (decodeControl s) (drop 92 s) memory (operation x)) memory
+    go zero = sym (rw is e)
+    go (suc k) = refl
