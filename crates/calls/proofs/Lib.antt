@@ -1,7 +1,1 @@
-pub mod Rows
-pub mod Owns
-pub mod Zeros
-pub mod Changes
-pub mod Settings
-pub mod Draws
 pub mod Wholes

@@ -22,8 +22,8 @@ use Rattle.chip.specs.Calls.{readIn, actedWith, pixelsWith, memoryWith, answere
 use Rattle.stored.specs.Block.{encode, decodeControl, decode, wellFormedBlock}
 use Rattle.stored.specs.Doors.{blockAnswer, blockAfter, blockMemory}
 use Rattle.stored.proofs.RoundTrip.{encode-decode}
-use Rattle.calls.specs.Own.{ownNumber, ownAnswer, ownBlock, ownMemory}
-use Rattle.calls.proofs.Changes.{well-control}
+use Rattle.steps.specs.Own.{ownNumber, ownAnswer, ownBlock, ownMemory}
+use Rattle.steps.proofs.Changes.{well-control}
 
 -- what a call on a block comes to
 abbrev pub Comes : List ℕ → List ℕ → Call → Answer → List ℕ → List ℕ → Type 0

@@ -1,12 +1,12 @@
 // A call on a block and a memory, whole: every input is answered, and a refusal changes no byte.
-use super::blocks;
-use super::pages;
-use super::registers;
-use super::slots;
-use super::writes;
 use chip::Answer;
 use chip::Call;
 use chip::Refusal;
+use drawing::registers;
+use drawing::slots;
+use drawing::writes;
+use paging::blocks;
+use paging::pages;
 use stored::fields;
 use stored::form;
 ghost use mathlib.Core.Path.{_≡_};

@@ -1,6 +1,6 @@
 -- `calls::acts::act` meets its contract. Assumes nothing.
 use Rattle.calls.proofs.Wholes.{ill-formed, wrong-length}
-use Rattle.calls.proofs.Changes.{well-long}
+use Rattle.steps.proofs.Changes.{well-long}
 use Rattle.stored.proofs.Forms.{passed, failed}
 use Rattle.stored.specs.Block.{decodeControl, wellFormedBlock}
 use Rattle.layout.specs.Memory.{size}

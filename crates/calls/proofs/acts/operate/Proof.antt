@@ -1,7 +1,7 @@
 -- `calls::acts::operate` meets its contract. Assumes nothing.
 use mathlib.Core.Logic.{_⊎_, inl, inr}
 use Rattle.calls.proofs.Wholes.{known, untouched}
-use Rattle.calls.proofs.Rows.{row-stateful}
+use Rattle.steps.proofs.Rows.{row-stateful}
 use Rattle.chip.specs.Steps.{memory-after}
 use lib.ListN.{getD}
 use denote.Ref.{now}

@@ -1,6 +1,6 @@
 -- `calls::acts::other` meets its contract: each arm is its operation, and the last is no operation. Assumes nothing.
 use Rattle.calls.proofs.Wholes.{known, unknown, untouched}
-use Rattle.calls.proofs.Rows.{row-access, row-precharge, row-read-block, row-data-read, row-stateless, row-write-tag, row-write-register, row-read-register}
+use Rattle.steps.proofs.Rows.{row-access, row-precharge, row-read-block, row-data-read, row-stateless, row-write-tag, row-write-register, row-read-register}
 use Rattle.chip.specs.Steps.{memory-after}
 use borrow.Author.Tests.{le-leb, lt-leb}
 use lib.ListN.{getD}

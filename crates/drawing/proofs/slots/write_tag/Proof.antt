@@ -1,0 +1,77 @@
+-- `drawing::slots::write_tag` meets its contract. Assumes nothing.
+use Rattle.stored.specs.Block.{encode}
+use Rattle.chip.specs.Steps.{withTag, counted}
+use lib.ListN.{drop}
+use Prim.Native.Nat.{_^_}
+use lib.Bits.{or-lt}
+use Rattle.steps.proofs.Rows.{row-write-tag}
+use Rattle.stored.proofs.Held.{held-of, held-tag}
+use borrow.Author.Tests.{ltb-true}
+use Rattle.chip.specs.Steps.{tagOf}
+use Rattle.chip.specs.Operations.{writeTag, inRange}
+use Rattle.chip.specs.State.{slots}
+use lib.Dec.{eqb}
+use lib.Bits.{bitOr}
+use mathlib.Core.Bool.{Bool, true, false, cond}
+use Rattle.steps.proofs.Changes.{further, counts}
+use Rattle.steps.proofs.Owns.{outside, not-allowed, none-applies, refused, done-answer, done-block}
+use Rattle.chip.specs.Steps.{control-after, pixels-after}
+use Rattle.chip.specs.Refusals.{badBits, onOpen, onClosed}
+use Rattle.chip.specs.Answers.{refusalOf, answer}
+use Rattle.stored.proofs.Forms.{passed, failed, equal, unequal}
+use Rattle.stored.specs.Block.{decodeControl}
+use Rattle.layout.proofs.Numbers.{and-left, and-right}
+use denote.Ref.{now}
+use native.Mathlib.Omega.{arith}
+use Prim.Native.Nat.{ℕ, _<_, _≤_}
+use mathlib.Core.List.{List, [], _∷_}
+use mathlib.Core.Path.{_≡_, refl, sym, ap, _∙_}
+use borrow.Author.Needs.{needs}
+use Rattle.drawing.proofs.slots.write_tag.Statement.{statement}
+use Rattle.drawing.proofs.slots.write_tag.Tie as tie
+
+-- replaced by the data, or the data ORed into it
+replaced : (replace : Bool) (was given : ℕ) → bitOr (cond replace 0 was) given ≡ cond replace given (bitOr was given)
+replaced true was given = refl
+replaced false was given = refl
+
+returns : tie.Need-returns
+unfolding inRange slots refusalOf
+returns c =
+    let s = now (c .before .before .before .args .s) in
+    let x = c .before .before .before .args .x in
+    let res = refused s x (writeTag (eqb (x .op) 12) (x .a) (x .given)) _ (row-write-tag x (c .before .before .before .pre .2) (c .before .before .before .pre .3)) (outside (decodeControl s) (writeTag (eqb (x .op) 12) (x .a) (x .given)) _ (failed (c .before .slot-fits .ensures) (c .if1 .taken))) in
+    (res .0, res .1)
+
+tag-requires : tie.Need-tag-requires
+tag-requires c κs =
+    let s = now (c .before .before .before .before .before .args .s) in
+    let x = c .before .before .before .before .before .args .x in
+    (c .before .before .before .before .before .pre .0, ltb-true (x .a) 8 (and-left _ _ (passed (c .before .before .before .slot-fits .ensures) (c .before .before .if1 .left))))
+
+put-tag-requires : tie.Need-put-tag-requires
+put-tag-requires c κs =
+    let s = now (c .before .before .before .before .before .before .before .before .before .args .s) in
+    let x = c .before .before .before .before .before .before .before .before .before .args .x in
+    (c .before .before .before .before .before .before .before .before .before .pre .0, ltb-true (x .a) 8 (and-left _ _ (passed (c .before .before .before .before .before .before .before .slot-fits .ensures) (c .before .before .before .before .before .before .if1 .left))))
+
+returns-2 : tie.Need-returns-2
+unfolding inRange slots badBits onOpen onClosed answer control-after pixels-after
+returns-2 c =
+    let s = now (c .before .before .before .before .before .before .before .before .before .before .before .before .before .before .before .before .args .s) in
+    let x = c .before .before .before .before .before .before .before .before .before .before .before .before .before .before .before .before .args .x in
+    let fits = passed (c .before .before .before .before .before .before .before .before .before .before .before .before .before .before .slot-fits .ensures) (c .before .before .before .before .before .before .before .before .before .before .before .before .before .if1 .left) in
+    let none = none-applies (decodeControl s) (writeTag (eqb (x .op) 12) (x .a) (x .given)) _ fits refl refl refl in
+    let r = row-write-tag x (c .before .before .before .before .before .before .before .before .before .before .before .before .before .before .before .before .pre .2) (c .before .before .before .before .before .before .before .before .before .before .before .before .before .before .before .before .pre .3) in
+    let tag : bitOr (c .before .before .before .before .before .before .before .before .before .pick .result) (x .given) ≡ cond (eqb (x .op) 12) (x .given) (bitOr (tagOf (decodeControl s) (x .a)) (x .given))
+    = ap (λ (t : ℕ). bitOr t (x .given)) (c .before .before .before .before .before .before .before .before .before .pick .ensures ∙ ap (cond (eqb (x .op) 12) 0) (c .before .before .before .before .before .before .before .before .before .before .tag .ensures)) ∙ replaced (eqb (x .op) 12) (tagOf (decodeControl s) (x .a)) (x .given) in
+    let tag-fits : bitOr (c .before .before .before .before .before .before .before .before .before .pick .result) (x .given) < 2 ^ 32 = or-lt 32 (c .before .before .before .before .before .before .before .before .before .pick .result) (x .given) (search needs) (search needs) in
+    let held = held-tag (held-of s (λ a. omega (arith, c .before .before .before .before .before .before .before .before .before .before .before .before .before .before .before .slice-known .given a)) (c .before .before .before .before .before .before .before .before .before .before .before .before .before .before .before .before .pre .1)) (x .a) (bitOr (c .before .before .before .before .before .before .before .before .before .pick .result) (x .given)) (ltb-true (x .a) 8 (and-left _ _ fits)) tag-fits in (
+      c .before .before .done .ensures .0 ∙ done-answer s x (writeTag (eqb (x .op) 12) (x .a) (x .given)) _ r none,
+      λ memory. c .before .before .done .ensures .1 ∙ ap further (c .before .before .before .before .before .before .put-tag .ensures) ∙ counts held
+          ∙ ap (λ (t : ℕ). encode (record { control = counted (withTag (decodeControl s) (x .a) t); pixels = drop 92 s })) tag
+          ∙ done-block s x (writeTag (eqb (x .op) 12) (x .a) (x .given)) _ r none memory,
+    )
+
+pub write-tag-spec : {M : Type 1} → statement M
+write-tag-spec = tie.close (tie.spec (λ c κs. search needs) returns tag-requires (λ c κs. search needs) put-tag-requires (λ c κs. search needs) (λ c. search needs) returns-2)

@@ -1,0 +1,10 @@
+-- `drawing::writes::drawn` meets its contract. Assumes nothing.
+use borrow.Author.Needs.{needs}
+use Rattle.drawing.proofs.writes.drawn.Statement.{statement}
+use Rattle.drawing.proofs.writes.drawn.Tie as tie
+
+returns : tie.Need-returns
+returns c = cc
+
+pub drawn-spec : {M : Type 1} → statement M
+drawn-spec = tie.close (tie.spec (λ c κs. search needs) (λ c κs. search needs) (λ c κs. search needs) returns)

@@ -1,0 +1,13 @@
+-- `drawing::writes::settle` meets its contract. Assumes nothing.
+use Rattle.steps.specs.Own.{settled}
+use mathlib.Core.Path.{refl}
+use borrow.Author.Needs.{needs}
+use Rattle.drawing.proofs.writes.settle.Statement.{statement}
+use Rattle.drawing.proofs.writes.settle.Tie as tie
+
+returns : tie.Need-returns
+unfolding settled
+returns c = (refl, cc)
+
+pub settle-spec : {M : Type 1} → statement M
+settle-spec = tie.close (tie.spec (λ c κs. search needs) (λ c κs. search needs) (λ c κs. search needs) (λ c. search needs) (λ c. search needs) (λ c κs. search needs) (λ c κs. search needs) (λ c κs. search needs) (λ c. search needs) returns)

@@ -1,0 +1,89 @@
+-- `paging::blocks::write_block` meets its contract. Assumes nothing.
+use Rattle.steps.proofs.Owns.{done-memory}
+use Rattle.bank.specs.Work.{tagged}
+use Rattle.chip.specs.Steps.{memory-after}
+use Rattle.chip.specs.declared.Answer.the-variants.{Done}
+use mathlib.Core.Bool.{false}
+use Rattle.steps.proofs.Owns.{on-closed}
+use Rattle.steps.proofs.Changes.{pages-in, page-below}
+use Rattle.steps.proofs.Rows.{row-write-block}
+use Rattle.stored.proofs.Held.{held-of}
+use Rattle.chip.proofs.Accepted.{block-range}
+use Rattle.chip.specs.Operations.{writeBlock, inRange}
+use Rattle.chip.specs.State.{slots, closed, isClosed}
+use lib.ListN.{drop}
+use lib.Dec.{eqb}
+use mathlib.Core.Bool.{_&&_}
+use Rattle.steps.proofs.Changes.{further, counts}
+use Rattle.steps.proofs.Owns.{outside, not-allowed, none-applies, refused, done-answer, done-block}
+use Rattle.chip.specs.Steps.{control-after, pixels-after}
+use Rattle.chip.specs.Refusals.{badBits, onOpen, onClosed}
+use Rattle.chip.specs.Answers.{refusalOf, answer}
+use Rattle.stored.proofs.Forms.{passed, failed, equal, unequal}
+use Rattle.stored.specs.Block.{decodeControl}
+use Rattle.layout.proofs.Numbers.{and-left, and-right}
+use denote.Ref.{now}
+use native.Mathlib.Omega.{arith}
+use Prim.Native.Nat.{ℕ, _<_, _≤_}
+use mathlib.Core.List.{List, [], _∷_}
+use mathlib.Core.Path.{_≡_, refl, sym, ap, _∙_}
+use borrow.Author.Needs.{needs}
+use Rattle.paging.proofs.blocks.write_block.Statement.{statement}
+use Rattle.paging.proofs.blocks.write_block.Tie as tie
+
+returns : tie.Need-returns
+unfolding inRange slots refusalOf
+returns c =
+    let s = now (c .before .before .before .before .args .s) in
+    let x = c .before .before .before .before .args .x in
+    let res = refused s x (writeBlock (eqb (x .op) 5) (x .a) (x .b) (x .c)) _ (row-write-block x (c .before .before .before .before .pre .3) (c .before .before .before .before .pre .4)) (outside (decodeControl s) (writeBlock (eqb (x .op) 5) (x .a) (x .b) (x .c)) _ (failed (c .before .block-fits .ensures) (c .if1 .taken))) in
+    (res .0, res .1 _, res .2 _)
+
+open-page-requires : tie.Need-open-page-requires
+open-page-requires c κs =
+    let x = c .before .before .before .before .before .args .x in
+    let fits = passed (c .before .before .block-fits .ensures) (c .before .if1 .left) in
+    let range = block-range 8 0 (x .a) (x .b) (x .c) (and-left _ _ fits) in
+    (c .before .before .before .before .before .pre .0, range .0)
+
+returns-2 : tie.Need-returns-2
+unfolding inRange slots badBits onOpen onClosed isClosed closed refusalOf
+returns-2 c =
+    let s = now (c .before .before .before .before .before .before .before .args .s) in
+    let x = c .before .before .before .before .before .before .before .args .x in
+    let fits = passed (c .before .before .before .before .block-fits .ensures) (c .before .before .before .if1 .left) in
+    let shut = equal (c .before .open-page .ensures) (c .if2 .taken) in
+    let res = refused s x (writeBlock (eqb (x .op) 5) (x .a) (x .b) (x .c)) _ (row-write-block x (c .before .before .before .before .before .before .before .pre .3) (c .before .before .before .before .before .before .before .pre .4)) (on-closed (decodeControl s) (writeBlock (eqb (x .op) 5) (x .a) (x .b) (x .c)) _ fits refl refl shut) in
+    (res .0, res .1 _, res .2 _)
+
+write-slot-requires : tie.Need-write-slot-requires
+write-slot-requires c κs =
+    let s = now (c .before .before .before .before .before .before .before .before .before .args .s) in
+    let x = c .before .before .before .before .before .before .before .before .before .args .x in
+    let fits = passed (c .before .before .before .before .before .before .block-fits .ensures) (c .before .before .before .before .before .if1 .left) in
+    let range = block-range 8 0 (x .a) (x .b) (x .c) (and-left _ _ fits) in
+    let below = page-below s (c .before .before .before .before .before .before .before .before .before .pre .1) (x .a) (range .0) (unequal (c .before .before .before .open-page .ensures) (c .before .before .if2 .left)) in
+    (c .before .before .before .before .before .before .before .before .before .pre .0, c .before .before .before .before .before .before .before .before .before .pre .2, pages-in s (c .before .before .before .before .before .before .before .before .before .pre .1) .1, range .0, below, range .1, range .2)
+
+tag-requires : tie.Need-tag-requires
+tag-requires c κs =
+    let x = c .before .before .before .before .before .before .before .before .before .before .before .before .before .args .x in
+    let fits = passed (c .before .before .before .before .before .before .before .before .before .before .block-fits .ensures) (c .before .before .before .before .before .before .before .before .before .if1 .left) in
+    let range = block-range 8 0 (x .a) (x .b) (x .c) (and-left _ _ fits) in
+    (c .before .before .before .before .before .before .before .before .before .before .before .before .before .pre .0, range .2)
+
+returns-3 : tie.Need-returns-3
+unfolding inRange slots badBits onOpen onClosed isClosed closed answer control-after pixels-after memory-after
+returns-3 c =
+    let s = now (c .before .before .before .before .before .before .before .before .before .before .before .before .before .before .before .before .before .before .before .args .s) in
+    let x = c .before .before .before .before .before .before .before .before .before .before .before .before .before .before .before .before .before .before .before .args .x in
+    let fits = passed (c .before .before .before .before .before .before .before .before .before .before .before .before .before .before .before .before .block-fits .ensures) (c .before .before .before .before .before .before .before .before .before .before .before .before .before .before .before .if1 .left) in
+    let none = none-applies (decodeControl s) (writeBlock (eqb (x .op) 5) (x .a) (x .b) (x .c)) _ fits refl refl (unequal (c .before .before .before .before .before .before .before .before .before .before .before .before .before .open-page .ensures) (c .before .before .before .before .before .before .before .before .before .before .before .before .if2 .left)) in
+    let r = (row-write-block x (c .before .before .before .before .before .before .before .before .before .before .before .before .before .before .before .before .before .before .before .pre .3) (c .before .before .before .before .before .before .before .before .before .before .before .before .before .before .before .before .before .before .before .pre .4)) in (
+      c .before .before .done .ensures .0 ∙ ap (λ (v : ℕ). Done v false false) (c .before .before .before .tagged-bytes .ensures ∙ ap tagged (c .before .before .before .before .before .tag .ensures)) ∙ done-answer s x (writeBlock (eqb (x .op) 5) (x .a) (x .b) (x .c)) _ r none,
+      c .before .before .done .ensures .1 ∙ counts (held-of s (λ a. omega (arith, c .before .before .before .before .before .before .before .before .before .before .before .before .before .before .before .before .before .before .slice-known .given a)) (c .before .before .before .before .before .before .before .before .before .before .before .before .before .before .before .before .before .before .before .pre .1)) ∙ done-block s x (writeBlock (eqb (x .op) 5) (x .a) (x .b) (x .c)) _ r none _,
+      c .before .before .before .before .before .before .before .before .before .write-slot .ensures ∙ done-memory s x (writeBlock (eqb (x .op) 5) (x .a) (x .b) (x .c)) _ r none _,
+    )
+
+pub write-block-spec : {M : Type 1} → statement M
+write-block-spec = tie.close (tie.spec (λ c κs. search needs) returns open-page-requires (λ c. search needs) returns-2 write-slot-requires tag-requires (λ c κs. search needs) (λ c κs. search needs) (λ c. search needs) (λ c. search needs) returns-3)

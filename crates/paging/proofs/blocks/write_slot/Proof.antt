@@ -1,0 +1,29 @@
+-- `paging::blocks::write_slot` meets its contract. Assumes nothing.
+use Rattle.chip.specs.Steps.{slotByte}
+use Rattle.bank.proofs.Parts.{part-is}
+use Rattle.bank.specs.Work.{backMask}
+use Rattle.bank.specs.Work.{inSlot, loaded}
+use Rattle.layout.specs.Memory.{address}
+use lib.ListN.{length, getD, take, drop, length-take, length-drop}
+use denote.Ref.{now}
+use native.Mathlib.Omega.{arith}
+use Prim.Native.Nat.{ℕ, _+_, _-_, _*_, _<_, _≤_}
+use mathlib.Core.List.{List}
+use mathlib.Core.Path.{_≡_, refl, sym, ap, ap₂, _∙_}
+use borrow.Author.Needs.{needs}
+use Rattle.paging.proofs.blocks.write_slot.Statement.{statement}
+use Rattle.paging.proofs.blocks.write_slot.Tie as tie
+
+write-back-in-requires : tie.Need-write-back-in-requires
+write-back-in-requires c κs =
+    let pre = c .before .before .before .before .before .before .before .before .before .before .before .before .before .pre in
+    rw (c .before .before .before .before .before .before .before .before .before .before .pages .ensures, c .before .before .before .before .before .before .before .before .before .open-page .ensures) (pre .1, pre .2, pre .3, pre .4, pre .5, simp (length-take, length-drop) (omega (arith, pre .0, pre .6)))
+
+returns : tie.Need-returns
+unfolding backMask slotByte
+returns c =
+    c .before .before .write-back-in .ensures
+    ∙ rw (c .before .before .before .before .before .before .before .before .before .before .before .before .before .pages .ensures, c .before .before .before .before .before .before .before .before .before .before .before .before .open-page .ensures, c .before .before .before .before .before .before .before .before .before .before .before .tag .ensures, c .before .before .before .before .before .before .before .before .pick .ensures, c .before .before .before .before .before .before .before .before .before .register .ensures, part-is (now (c .before .before .before .before .before .before .before .before .before .before .before .before .before .before .before .before .args .s)) 92)
+
+pub write-slot-spec : {M : Type 1} → statement M
+write-slot-spec = tie.close (tie.spec (λ c κs. search needs) (λ c κs. search needs) (λ c κs. search needs) (λ c κs. search needs) (λ c κs. search needs) (λ c. search needs) (λ c. search needs) (λ c. search needs) (λ c. search needs) (λ c. search needs) (λ c. search needs) (λ c. search needs) (λ c. search needs) write-back-in-requires (λ c. search needs) returns)

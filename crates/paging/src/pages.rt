@@ -1,0 +1,67 @@
+// Access, precharge and duplicate page.
+use chip::Answer;
+use chip::Call;
+use chip::Refusal;
+use steps::done;
+use steps::operands;
+use stored::fields;
+ghost use mathlib.Core.Path.{_≡_};
+ghost use mathlib.Core.Bool.{true, false};
+ghost use mathlib.Core.List.{List};
+ghost use Prim.Native.Nat.{ℕ, _+_, _%_, _^_};
+ghost use lib.ListN.{length};
+ghost use Rattle.layout.specs.Memory.{size};
+ghost use Rattle.bank.specs.Words.{wordAt, putWord};
+ghost use Rattle.stored.specs.Block.{counterAt, decodeControl, wellFormedBlock};
+ghost use Rattle.steps.specs.Own.{ownAnswer, ownBlock, ownMemory};
+
+// Opens a closed bank at a page.
+pub fn access(s: &mut [u8], x: Call) -> Answer
+    requires { ⌜ (length (now s) ≡ 348) × (wellFormedBlock (now s) ≡ true) × (x .op ≡ 1) ⌝ }
+    ensures { λ r. ⌜ (r ≡ ownAnswer (now (s .entry)) x) × ((memory : List ℕ) → now (s .exit) ≡ ownBlock (now (s .entry)) memory x) ⌝ }
+{
+    if !operands::page_fits(s, x) {
+        return Answer::Refused(Refusal::OperandOutside);
+    }
+    if fields::open_page(s, x.a) != 65535 {
+        return Answer::Refused(Refusal::BankOpen);
+    }
+    fields::put_page(s, x.a, x.b as u16);
+    done(s, 0)
+}
+
+// Closes a bank; a closed one stays closed.
+pub fn precharge(s: &mut [u8], x: Call) -> Answer
+    requires { ⌜ (length (now s) ≡ 348) × (wellFormedBlock (now s) ≡ true) × (x .op ≡ 2) ⌝ }
+    ensures { λ r. ⌜ (r ≡ ownAnswer (now (s .entry)) x) × ((memory : List ℕ) → now (s .exit) ≡ ownBlock (now (s .entry)) memory x) ⌝ }
+{
+    if !operands::bank_fits(x) {
+        return Answer::Refused(Refusal::OperandOutside);
+    }
+    fields::put_page(s, x.a, 65535);
+    done(s, 0)
+}
+
+// Copies the open page over the named one, which becomes the open page.
+pub fn duplicate(s: &mut [u8], memory: &mut [u8], x: Call) -> Answer
+    requires { ⌜ (length (now s) ≡ 348) × (wellFormedBlock (now s) ≡ true) × (length (now memory) ≡ size (decodeControl (now s) .pages)) × (x .op ≡ 3) ⌝ }
+    ensures { λ r. ⌜ (r ≡ ownAnswer (now (s .entry)) x) × (now (s .exit) ≡ ownBlock (now (s .entry)) (now (memory .entry)) x) × (now (memory .exit) ≡ ownMemory (now (s .entry)) (now (memory .entry)) x) ⌝ }
+{
+    if !operands::page_fits(s, x) {
+        return Answer::Refused(Refusal::OperandOutside);
+    }
+    let from = fields::open_page(s, x.a);
+    if from == 65535 {
+        return Answer::Refused(Refusal::BankClosed);
+    }
+    let pages = fields::pages(s);
+    bank::copy_page_in(
+        memory,
+        pages as usize,
+        x.a as usize,
+        from as usize,
+        x.b as usize,
+    );
+    fields::put_page(s, x.a, x.b as u16);
+    done(s, 0)
+}

@@ -1,0 +1,4 @@
+pub mod Rows
+pub mod Owns
+pub mod Zeros
+pub mod Changes

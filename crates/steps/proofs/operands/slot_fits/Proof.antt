@@ -1,0 +1,10 @@
+-- `steps::operands::slot_fits` meets its contract: all tests at once. Assumes nothing.
+use borrow.Author.Needs.{needs}
+use Rattle.steps.proofs.operands.slot_fits.Statement.{statement}
+use Rattle.steps.proofs.operands.slot_fits.Tie as tie
+
+returns : tie.Need-returns
+returns c = cc
+
+pub slot-fits-spec : {M : Type 1} → statement M
+slot-fits-spec = tie.close (tie.spec (λ c κs. search needs) returns)
