@@ -77,11 +77,18 @@ pub fn hit(s: &[u8]) -> bool
     bits::bit_of(bank::word_at(s, 52), 1)
 }
 
+// Picking and hit as the flags' bits 0 and 1.
+pub fn flags(picking: bool, hit: bool) -> u32
+    ensures { λ r. ⌜ r ≡ digit picking + digit hit * 2 ⌝ }
+{
+    bits::digit_of(picking) + bits::digit_of(hit) * 2
+}
+
 pub fn put_flags(s: &mut [u8], picking: bool, hit: bool)
     requires { ⌜ length (now s) ≡ 348 ⌝ }
     ensures { λ _. ⌜ now (s .exit) ≡ putWord flagsAt (digit picking + digit hit * 2) (now (s .entry)) ⌝ }
 {
-    bank::put_word(s, 52, bits::digit_of(picking) + bits::digit_of(hit) * 2);
+    bank::put_word(s, 52, flags(picking, hit));
 }
 
 // One call more. The counter wraps: after FFFFFFFFh comes 0.

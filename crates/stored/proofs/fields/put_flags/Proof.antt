@@ -1,25 +1,10 @@
--- `stored::fields::put_flags` meets its contract: picking in bit 0, hit in bit 1. Assumes nothing.
-use Rattle.bits.specs.Bits.{digit}
-use lib.Dec.{lit≤}
-use mathlib.Core.Bool.{Bool, true, false}
-use native.Mathlib.Omega.{arith}
-use Prim.Native.Nat.{ℕ, _+_, _-_, _*_, _<_, _≤_}
+-- `stored::fields::put_flags` meets its contract: the flags, put where they lie. Assumes nothing.
 use borrow.Author.Needs.{needs}
 use Rattle.stored.proofs.fields.put_flags.Statement.{statement}
 use Rattle.stored.proofs.fields.put_flags.Tie as tie
-
-digit-le : (b : Bool) → digit b ≤ 1
-digit-le true = lit≤ tt
-digit-le false = lit≤ tt
-
-mul-put-word : tie.Need-mul-put-word
-mul-put-word c = omega (arith, digit-le (c .before .before .before .before .args .hit), c .digit-of2 .ensures)
-
-add-put-word : tie.Need-add-put-word
-add-put-word c = omega (arith, digit-le (c .before .before .before .before .args .hit), digit-le (c .before .before .before .before .args .picking), c .digit-of2 .ensures, c .before .digit-of .ensures)
 
 returns : tie.Need-returns
 returns c = cc
 
 pub put-flags-spec : {M : Type 1} → statement M
-put-flags-spec = tie.close (tie.spec (λ c κs. search needs) (λ c κs. search needs) mul-put-word add-put-word (λ c κs. search needs) (λ c. search needs) returns)
+put-flags-spec = tie.close (tie.spec (λ c κs. search needs) (λ c κs. search needs) (λ c. search needs) returns)

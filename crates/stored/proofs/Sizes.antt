@@ -1,0 +1,26 @@
+-- What every chip by value has: each array its length, and each number its width. Assumes nothing.
+use mathlib.Core.Path.{_≡_}
+use mathlib.Core.List.{List}
+use Prim.Native.Nat.{ℕ, _^_, _<_}
+use lib.ListN.{length, getD}
+use mir.Syntax.{w16, w32}
+use mir.Val.{Val, Fits}
+use denote.Laws.{Is}
+use denote.Struct.Declared.{row}
+use borrow.Author.Needs.{needs}
+use Rattle.chip.proofs.Chip.{the-type}
+use Rattle.chip.specs.declared.Chip.{Chip}
+use Rattle.stored.proofs.RoundTrip.{Sized}
+
+pub sized : (chip : Chip) (vs : List Val) → Is (row the-type) chip vs → Sized chip
+sized chip vs g = record {
+  pages-fit = search needs;
+  banks-long = search needs;
+  banks-fit = λ j. let f : Fits w16 (getD (chip .control .banks) j 0) = search needs in f .fits;
+  registers-long = search needs;
+  registers-fit = λ j. let f : Fits w32 (getD (chip .control .registers) j 0) = search needs in f .fits;
+  counter-fits = search needs;
+  tags-long = search needs;
+  tags-fit = λ j. let f : Fits w32 (getD (chip .control .tags) j 0) = search needs in f .fits;
+  pixels-long = search needs;
+}

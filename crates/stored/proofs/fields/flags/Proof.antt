@@ -1,0 +1,25 @@
+-- `stored::fields::flags` meets its contract: picking in bit 0, hit in bit 1. Assumes nothing.
+use Rattle.bits.specs.Bits.{digit}
+use lib.Dec.{lit≤}
+use mathlib.Core.Bool.{Bool, true, false}
+use native.Mathlib.Omega.{arith}
+use Prim.Native.Nat.{ℕ, _+_, _-_, _*_, _<_, _≤_}
+use borrow.Author.Needs.{needs}
+use Rattle.stored.proofs.fields.flags.Statement.{statement}
+use Rattle.stored.proofs.fields.flags.Tie as tie
+
+digit-le : (b : Bool) → digit b ≤ 1
+digit-le true = lit≤ tt
+digit-le false = lit≤ tt
+
+mul-result : tie.Need-mul-result
+mul-result c = omega (arith, digit-le (c .before .before .args .hit), c .digit-of2 .ensures)
+
+add-result : tie.Need-add-result
+add-result c = omega (arith, digit-le (c .before .before .args .hit), digit-le (c .before .before .args .picking), c .digit-of2 .ensures, c .before .digit-of .ensures)
+
+returns : tie.Need-returns
+returns c = cc
+
+pub flags-spec : {M : Type 1} → statement M
+flags-spec = tie.close (tie.spec (λ c κs. search needs) (λ c κs. search needs) mul-result add-result returns)

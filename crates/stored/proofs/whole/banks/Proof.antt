@@ -1,0 +1,12 @@
+-- `stored::whole::banks` meets its contract: the four half words, where they lie. Assumes nothing.
+use Rattle.stored.specs.Block.{halvesAt, decodeControl}
+use borrow.Author.Needs.{needs}
+use Rattle.stored.proofs.whole.banks.Statement.{statement}
+use Rattle.stored.proofs.whole.banks.Tie as tie
+
+returns : tie.Need-returns
+unfolding decodeControl halvesAt
+returns c = cc
+
+pub banks-spec : {M : Type 1} → statement M
+banks-spec = tie.close (tie.spec (λ c κs. search needs) (λ c κs. search needs) (λ c κs. search needs) (λ c κs. search needs) returns)

@@ -1,0 +1,12 @@
+-- `stored::whole::read` meets its contract: both parts, where they lie. Assumes nothing.
+use Rattle.stored.specs.Block.{decode}
+use borrow.Author.Needs.{needs}
+use Rattle.stored.proofs.whole.read.Statement.{statement}
+use Rattle.stored.proofs.whole.read.Tie as tie
+
+returns : tie.Need-returns
+unfolding decode
+returns c = cc
+
+pub read-spec : {M : Type 1} → statement M
+read-spec = tie.close (tie.spec (λ c κs. search needs) (λ c κs. search needs) returns)

@@ -1,0 +1,14 @@
+-- `stored::whole::tags` meets its contract: the eight words, where they lie. Assumes nothing.
+use Rattle.stored.specs.Block.{wordsAt, decodeControl}
+use borrow.Author.Needs.{needs}
+use Rattle.stored.proofs.whole.tags.Statement.{statement}
+use Rattle.stored.proofs.whole.tags.Tie as tie
+
+returns : tie.Need-returns
+unfolding decodeControl wordsAt
+returns c = cc
+
+pub tags-spec : {M : Type 1} → statement M
+tags-spec = tie.close
+    (tie.spec (λ c κs. search needs) (λ c κs. search needs) (λ c κs. search needs) (λ c κs. search needs) (λ c κs. search needs) (λ c κs. search needs)
+    (λ c κs. search needs) (λ c κs. search needs) returns)
