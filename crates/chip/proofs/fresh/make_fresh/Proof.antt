@@ -1,0 +1,34 @@
+-- `chip::fresh::make_fresh` meets its contract: done exactly where P fits. Assumes nothing.
+use mathlib.Core.Path.{_≡_}
+use mathlib.Core.Bool.{true}
+use native.Mathlib.Omega.{arith}
+use lib.Dec.{leb}
+use borrow.Author.Needs.{needs}
+use borrow.Author.Tests.{leb-true}
+use Rattle.layout.specs.Numbers.{first, pagesFit}
+use Rattle.layout.proofs.Numbers.{and-right, test-holds, test-fails}
+use Rattle.chip.specs.State.{freshNumber}
+use Rattle.chip.specs.Answers.{refusalOf}
+use Rattle.chip.specs.Calls.{freshAnswered}
+use Rattle.chip.proofs.fresh.make_fresh.Statement.{statement}
+use Rattle.chip.proofs.fresh.make_fresh.Tie as tie
+
+fits : (c : tie.Else1) → pagesFit (c .before .before .args .pages) ≡ true
+fits c = test-holds (c .before .pages-fit .ensures) (c .if1 .left)
+
+returns : tie.Need-returns
+unfolding freshAnswered freshNumber first refusalOf
+returns c = rw (test-fails (c .before .pages-fit .ensures) (c .if1 .taken))
+
+cast-fresh : tie.Need-cast-fresh
+unfolding pagesFit
+cast-fresh c =
+    let pages = c .before .before .args .pages in
+    omega (arith, leb-true pages 257 (and-right (leb 1 pages) (leb pages 257) (fits c)))
+
+returns-2 : tie.Need-returns-2
+unfolding freshAnswered freshNumber first
+returns-2 c = rw (fits (c .before)) cc
+
+pub make-fresh-spec : {M : Type 1} → statement M
+make-fresh-spec = tie.close (tie.spec (λ c κs. search needs) returns cast-fresh (λ c κs. search needs) returns-2)

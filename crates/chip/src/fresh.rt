@@ -1,0 +1,47 @@
+// A fresh chip, and a chip made fresh. The definitions are specs/State.antt and specs/Calls.antt.
+use super::Answer;
+use super::Answered;
+use super::Chip;
+use super::Control;
+use super::Refusal;
+ghost use mathlib.Core.Path.{_≡_};
+ghost use Rattle.chip.specs.State.{freshOf};
+ghost use Rattle.chip.specs.Calls.{freshAnswered};
+
+// A fresh chip with so many pages to a bank, whether or not there may be so many.
+pub fn fresh(pages: u16) -> Chip
+    ensures { λ r. ⌜ r ≡ freshOf pages ⌝ }
+{
+    Chip {
+        control: Control {
+            pages: pages,
+            banks: [65535; 4],
+            registers: [0xffff_ffff, 0, 0, 0, 0x0303_0303, 0, 0],
+            picking: false,
+            hit: false,
+            counter: 0,
+            tags: [0; 8],
+        },
+        pixels: [0; 256],
+    }
+}
+
+// A chip made fresh. Where there may not be so many pages to a bank, it is left as it is.
+pub fn make_fresh(chip: Chip, pages: u32) -> Answered
+    ensures { λ r. ⌜ r ≡ freshAnswered chip pages ⌝ }
+{
+    if !layout::memory::pages_fit(pages) {
+        return Answered {
+            answer: Answer::Refused(Refusal::OperandOutside),
+            chip: chip,
+        };
+    }
+    Answered {
+        answer: Answer::Done {
+            value: 0,
+            pass: false,
+            written: false,
+        },
+        chip: fresh(pages as u16),
+    }
+}
