@@ -13,10 +13,14 @@ digit-le true = lit≤ tt
 digit-le false = lit≤ tt
 
 mul-result : tie.Need-mul-result
-mul-result c = omega (arith, digit-le (c .before .before .args .hit), c .digit-of2 .ensures)
+mul-result c =
+    let a = c .before .before .args in
+    omega (arith, digit-le (a .picking), digit-le (a .hit), c .digit-of2 .ensures)
 
 add-result : tie.Need-add-result
-add-result c = omega (arith, digit-le (c .before .before .args .hit), digit-le (c .before .before .args .picking), c .digit-of2 .ensures, c .before .digit-of .ensures)
+add-result c =
+    let a = c .before .before .args in
+    omega (arith, digit-le (a .picking), digit-le (a .hit), c .before .digit-of .ensures, c .digit-of2 .ensures)
 
 returns : tie.Need-returns
 returns c = cc
