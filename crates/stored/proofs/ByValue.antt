@@ -1,0 +1,46 @@
+-- A call on the block of a chip answers, and leaves memory and block, as the call on the chip by value does. Assumes nothing.
+use mathlib.Core.Path.{_≡_, refl, sym, ap}
+use mathlib.Core.Bool.{Bool, true, false, cond}
+use mathlib.Core.List.{List}
+use Prim.Native.Nat.{ℕ}
+use Rattle.layout.specs.Numbers.{first}
+use Rattle.chip.specs.declared.Answer.{Answer}
+use Rattle.chip.specs.declared.Answer.the-variants.{Refused}
+use Rattle.chip.specs.declared.Answered.{Answered}
+use Rattle.chip.specs.declared.Call.{Call}
+use Rattle.chip.specs.declared.Chip.{Chip}
+use Rattle.chip.specs.declared.Refusal.the-variants.{IllFormed}
+use Rattle.chip.specs.State.{wellFormed}
+use Rattle.chip.specs.Answers.{refusalOf}
+use Rattle.chip.specs.Refusals.{number}
+use Rattle.chip.specs.Calls.{actedWith, pixelsWith, memoryWith, answeredWith, memoryLeft, answeredOf, memoryOf}
+use Rattle.stored.specs.Block.{encode}
+use Rattle.stored.specs.Doors.{blockAnswer, blockAfter, blockMemory}
+use Rattle.stored.proofs.RoundTrip.{Sized, decode-encode, encoded-well}
+
+-- x by a test, and where it fails y, which is then x
+either : {A : Type 0} (test : Bool) (x y : A) → (test ≡ false → x ≡ y) → cond test x y ≡ x
+either true x y same = refl
+either false x y same = sym (same refl)
+
+module _ (chip : Chip) (z : Sized chip) (memory : List ℕ) (x : Call) where
+  -- a chip that is not well formed is refused and left, and so is memory
+  ill-formed : wellFormed (chip .control) ≡ false → answeredOf chip memory x ≡ record { answer = Refused IllFormed; chip = chip }
+  unfolding answeredOf answeredWith actedWith pixelsWith number first refusalOf
+  ill-formed e = rw e
+
+  ill-memory : wellFormed (chip .control) ≡ false → memoryOf chip memory x ≡ memory
+  unfolding memoryOf memoryLeft memoryWith number first
+  ill-memory e = rw e
+
+  pub answer-by-value : blockAnswer (encode chip) memory x ≡ answeredOf chip memory x .answer
+  unfolding blockAnswer
+  answer-by-value = rw (encoded-well chip z, decode-encode chip z) (either _ _ _ (λ e. ap (λ (r : Answered). r .answer) (ill-formed e)))
+
+  pub block-by-value : blockAfter (encode chip) memory x ≡ encode (answeredOf chip memory x .chip)
+  unfolding blockAfter
+  block-by-value = rw (encoded-well chip z, decode-encode chip z) (either _ _ _ (λ e. ap (λ (r : Answered). encode (r .chip)) (ill-formed e)))
+
+  pub memory-by-value : blockMemory (encode chip) memory x ≡ memoryOf chip memory x
+  unfolding blockMemory
+  memory-by-value = rw (encoded-well chip z, decode-encode chip z) (either _ _ _ ill-memory)
