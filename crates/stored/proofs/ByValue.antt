@@ -1,10 +1,9 @@
--- A call on the block of a chip answers, and leaves memory and block, as the call on the chip by value does. Assumes nothing.
-use mathlib.Core.Path.{_≡_, refl, sym, ap}
+-- A call on the block of a chip answers, and leaves chip and memory, as the call on the chip by value does. Assumes nothing.
+use mathlib.Core.Path.{_≡_, refl, sym, ap, _∙_}
 use mathlib.Core.Bool.{Bool, true, false, cond}
 use mathlib.Core.List.{List}
-use Prim.Native.Nat.{ℕ}
+use Prim.Native.Nat.{ℕ, _^_, _<_}
 use Rattle.layout.specs.Numbers.{first}
-use Rattle.chip.specs.declared.Answer.{Answer}
 use Rattle.chip.specs.declared.Answer.the-variants.{Refused}
 use Rattle.chip.specs.declared.Answered.{Answered}
 use Rattle.chip.specs.declared.Call.{Call}
@@ -14,9 +13,10 @@ use Rattle.chip.specs.State.{wellFormed}
 use Rattle.chip.specs.Answers.{refusalOf}
 use Rattle.chip.specs.Refusals.{number}
 use Rattle.chip.specs.Calls.{actedWith, pixelsWith, memoryWith, answeredWith, memoryLeft, answeredOf, memoryOf}
-use Rattle.stored.specs.Block.{encode}
+use Rattle.stored.specs.Block.{encode, decode}
 use Rattle.stored.specs.Doors.{blockAnswer, blockAfter, blockMemory}
 use Rattle.stored.proofs.RoundTrip.{Sized, decode-encode, encoded-well}
+use Rattle.stored.proofs.Keeps.{stays-sized}
 
 -- x by a test, and where it fails y, which is then x
 either : {A : Type 0} (test : Bool) (x y : A) → (test ≡ false → x ≡ y) → cond test x y ≡ x
@@ -44,3 +44,7 @@ module _ (chip : Chip) (z : Sized chip) (memory : List ℕ) (x : Call) where
   pub memory-by-value : blockMemory (encode chip) memory x ≡ memoryOf chip memory x
   unfolding blockMemory
   memory-by-value = rw (encoded-well chip z, decode-encode chip z) (either _ _ _ ill-memory)
+
+  -- the chip that is read from the block after
+  pub chip-by-value : x .given < 2 ^ 32 → decode (blockAfter (encode chip) memory x) ≡ answeredOf chip memory x .chip
+  chip-by-value h = ap decode block-by-value ∙ decode-encode (answeredOf chip memory x .chip) (stays-sized chip memory x z h)

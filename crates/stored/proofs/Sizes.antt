@@ -1,8 +1,6 @@
 -- What every chip by value has: each array its length, and each number its width. Assumes nothing.
-use mathlib.Core.Path.{_≡_}
 use mathlib.Core.List.{List}
-use Prim.Native.Nat.{ℕ, _^_, _<_}
-use lib.ListN.{length, getD}
+use lib.ListN.{getD}
 use mir.Syntax.{w16, w32}
 use mir.Val.{Val, Fits}
 use denote.Laws.{Is}

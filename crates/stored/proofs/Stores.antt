@@ -7,7 +7,6 @@ use native.Mathlib.Numerals.{add-one}
 use native.Mathlib.Omega.{arith}
 use lib.ListN.{length, getD, set, take}
 use lib.Seq.{sets, sets-eq, take-suc, length-take-le, drop-length}
-use Rattle.bits.specs.Bits.{byte}
 use Rattle.bank.specs.Update.{update}
 use Rattle.bank.specs.Words.{putHalf, putWord}
 use Rattle.chip.specs.declared.Control.{Control}

@@ -3,7 +3,7 @@ use Rattle.bits.specs.Bits.{digit}
 use lib.Dec.{lit≤}
 use mathlib.Core.Bool.{Bool, true, false}
 use native.Mathlib.Omega.{arith}
-use Prim.Native.Nat.{ℕ, _+_, _-_, _*_, _<_, _≤_}
+use Prim.Native.Nat.{_≤_}
 use borrow.Author.Needs.{needs}
 use Rattle.stored.proofs.fields.flags.Statement.{statement}
 use Rattle.stored.proofs.fields.flags.Tie as tie

@@ -1,11 +1,10 @@
--- `stored::whole::pixels` meets its contract. The loop's invariant: the first i bytes are stored, now into the array. Assumes nothing.
+-- `stored::whole::pixels` meets its contract. The loop's invariant: the first i bytes from 92 on are in the array. Assumes nothing.
 use mathlib.Core.Path.{_≡_, refl, sym, ap, ap₂, _∙_}
 use native.Mathlib.Nat.{zero-add}
-use Prim.Native.Nat.{ℕ, _+_, _-_, _*_, _≤_, _<_}
+use Prim.Native.Nat.{ℕ, _-_, _≤_, _<_}
 use native.Mathlib.Omega.{arith}
-use lib.ListN.{length, getD, set, take, drop, length-drop}
+use lib.ListN.{length, set, take, drop, length-drop}
 use lib.Seq.{sets, length-sets, take-all, getD-drop}
-use borrow.Author.Needs.{needs}
 use Rattle.stored.proofs.Stores.{byte-turn, sets-whole}
 use Rattle.stored.proofs.whole.pixels.Statement.{statement}
 use Rattle.stored.proofs.whole.pixels.Tie as tie

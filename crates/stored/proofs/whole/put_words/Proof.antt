@@ -1,8 +1,8 @@
 -- `stored::whole::put_words` meets its contract. The loop's invariant: the first i numbers are stored. Assumes nothing.
-use mathlib.Core.Path.{_≡_, refl, sym, ap, _∙_}
-use Prim.Native.Nat.{ℕ, _+_, _-_, _*_, _≤_, _<_}
+use mathlib.Core.Path.{_≡_, refl, ap, _∙_}
+use Prim.Native.Nat.{_-_, _≤_}
 use native.Mathlib.Omega.{arith}
-use lib.ListN.{length, getD, take}
+use lib.ListN.{length, take}
 use lib.Seq.{sets, length-sets, take-all}
 use borrow.Author.Needs.{needs}
 use Rattle.stored.specs.Block.{words}
