@@ -1,0 +1,32 @@
+-- `calls::value::perform` meets its contract: the stored chip, acted on and read back. Assumes nothing.
+use Rattle.stored.proofs.ByValue.{answer-by-value, chip-by-value, memory-by-value}
+use Rattle.stored.proofs.Sizes.{sized}
+use Rattle.stored.specs.Doors.{blockAnswer, blockAfter, blockMemory}
+use Rattle.stored.specs.Block.{decode}
+use denote.Ref.{now}
+use Prim.Native.Nat.{ℕ, _^_, _<_}
+use mathlib.Core.List.{List}
+use mathlib.Core.Path.{_≡_, ap, _∙_}
+use borrow.Author.Needs.{needs}
+use Rattle.calls.proofs.value.perform.Statement.{statement}
+use Rattle.calls.proofs.value.perform.Tie as tie
+
+given-fits : (c : tie.Start) → c .args .x .given < 2 ^ 32
+given-fits c = search needs
+
+returns : tie.Need-returns
+returns c =
+    let start = c .before .before .before .before .before .before .before .before .before .before .before .before in
+    let chip = start .args .chip in
+    let m = now (start .args .memory) in
+    let x = start .args .x in
+    let z = sized chip _ (start .good .0) in
+    let kept = c .before .before .before .before .before .before .before .before .before .store .ensures in
+    let answers = c .before .before .before .before .before .act .ensures .0 ∙ ap (λ (l : List ℕ). blockAnswer l m x) kept ∙ answer-by-value chip z m x in
+    let leaves = c .read .ensures ∙ ap decode (c .before .before .before .before .before .act .ensures .1 ∙ ap (λ (l : List ℕ). blockAfter l m x) kept) ∙ chip-by-value chip z m x (given-fits start) in (
+      λ i. record { answer = answers i; chip = leaves i },
+      c .before .before .before .before .before .act .ensures .2 ∙ ap (λ (l : List ℕ). blockMemory l m x) kept ∙ memory-by-value chip z m x,
+    )
+
+pub perform-spec : {M : Type 1} → statement M
+perform-spec = tie.close (tie.spec (λ c. search needs) (λ c κs. search needs) (λ c. search needs) (λ c κs. search needs) (λ c. search needs) (λ c κs. search needs) (λ c. search needs) returns)

@@ -1,0 +1,20 @@
+// A call on a chip by value: stored, acted on and read back. The round trip of the stored state makes this the same call.
+use super::acts;
+use chip::Answered;
+use chip::Call;
+use chip::Chip;
+use stored::whole;
+ghost use mathlib.Core.Path.{_≡_};
+ghost use Rattle.chip.specs.Calls.{answeredOf, memoryOf};
+
+pub fn perform(chip: Chip, memory: &mut [u8], x: Call) -> Answered
+    ensures { λ r. ⌜ (r ≡ answeredOf chip (now (memory .entry)) x) × (now (memory .exit) ≡ memoryOf chip (now (memory .entry)) x) ⌝ }
+{
+    let mut s = [0u8; 348];
+    whole::store(&mut s, chip);
+    let answer = acts::act(&mut s, memory, x);
+    Answered {
+        answer,
+        chip: whole::read(&s),
+    }
+}
