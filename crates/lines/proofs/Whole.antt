@@ -13,7 +13,7 @@ use lib.Seq.{drop-cons}
 use borrow.Author.Tests.{lt-ltb, le-ltb, le-leb, lt-leb, ne-eqb, eqb-true}
 use Rattle.layout.specs.Numbers.{first, whenDone}
 use Rattle.chip.specs.declared.Call.{Call}
-use Rattle.chip.specs.Starred.{ask}
+use Rattle.chip.specs.Operations.{ask}
 use Rattle.lines.specs.declared.reader.Reader.{Reader}
 use Rattle.lines.specs.declared.reader.Parsed.{Parsed}
 use Rattle.lines.specs.declared.reader.Parsed.the-variants.{Read, NotALine}

@@ -4,7 +4,7 @@ use mathlib.Core.List.{List, [], _∷_}
 use Prim.Native.Nat.{ℕ, _+_, _-_, _*_, _^_}
 use lib.Dec.{eqb, ltb}
 use Rattle.chip.specs.declared.Call.{Call}
-use Rattle.chip.specs.Starred.{ask}
+use Rattle.chip.specs.Operations.{ask}
 use Rattle.lines.specs.declared.reader.Reader.{Reader}
 use Rattle.lines.specs.declared.reader.Parsed.{Parsed}
 use Rattle.lines.specs.declared.reader.Parsed.the-variants.{Read, NotALine}
