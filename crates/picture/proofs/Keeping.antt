@@ -3,7 +3,7 @@
 use mathlib.Core.Path.{_≡_, refl, sym, ap, _∙_, subst}
 use mathlib.Core.Bool.{true, not, _&&_}
 use mathlib.Core.List.{List, [], _∷_}
-use Prim.Native.Nat.{ℕ, suc}
+use Prim.Native.Nat.{ℕ, zero, suc, _<_}
 use native.Mathlib.Omega.{arith}
 use lib.Dec.{leb}
 use lib.ListN.{length}
@@ -68,10 +68,11 @@ done {n} {c} {g} {x} {xs} own test rest = record { over = call }
         (stays-well-formed n c (operation x) old formed (a .in-range) (a .bits-allowed))
         (length-after c p m (operation x) ∙ sized ∙ ap size (sym (pages-after n c (operation x) old))))
 
--- a call that is refused breaks no premise
-pub refused : {n : ℕ} {c : Control} {g : Book} {x : Call} {xs : List Call} (k : ℕ) → asked n c x ≡ suc k → Draws n c g xs → Draws n c g (x ∷ xs)
+-- a call that is refused, with this number, breaks no premise
+pub refused : {n : ℕ} {c : Control} {g : Book} {x : Call} {xs : List Call} (r : ℕ) → asked n c x ≡ r → 0 < r → Draws n c g xs → Draws n c g (x ∷ xs)
 unfolding numberIn worldOf
-refused {n} {c} {g} {x} {xs} k own rest = record { over = call }
+refused zero own some rest = absurd (omega arith)
+refused {n} {c} {g} {x} {xs} (suc k) own some rest = record { over = call }
   where
     call : (p m : List ℕ) (f : Flat) → wellFormed c ≡ true → length m ≡ size (c .pages) → Settles n (worldOf c p m g f) (x ∷ xs)
     call p m f formed sized =

@@ -6,7 +6,7 @@ use mathlib.Core.Bool.{true, false, false≢true}
 use mathlib.Core.List.{List}
 use Prim.Native.Nat.{ℕ, zero, suc, _<_, _≤_}
 use native.Mathlib.Omega.{arith}
-use lib.Dec.{ltb}
+use lib.Dec.{ltb, lit<}
 use borrow.Author.Tests.{lt-ltb, le-leb}
 use Rattle.bits.specs.Bits.{bit, word, within}
 use Rattle.layout.specs.Numbers.{first, pagesFit}
@@ -56,7 +56,7 @@ listing-draws P page =
     -- precharge
     done refl refl (λ old.
     -- a write-back that is refused: the bank is closed
-    refused 6 refl
+    refused 7 refl (lit< tt)
     (ends refl)))))))
 
 pub listing-settles : ListingSettles
@@ -91,7 +91,7 @@ panes-draws P page0 page1 =
     done refl refl (λ old.
     done refl refl (λ old.
     -- a tag write that is refused: there is no slot 8
-    refused 3 refl (
+    refused 4 refl (lit< tt) (
     -- slot 0 loaded anew; a page copied over another, where no slot stands for a block of either
     done refl refl (λ old.
     done (rw page1) refl (λ old.

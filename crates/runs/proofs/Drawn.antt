@@ -1,0 +1,61 @@
+-- Demand 3 for what `run` leaves: its definitions are the chip's part of demand 3's run. Assumes nothing.
+use mathlib.Core.Path.{_≡_, refl, sym, ap, _∙_}
+use mathlib.Core.List.{List, [], _∷_}
+use Prim.Native.Nat.{ℕ, _+_, _≤_}
+use lib.ListN.{length}
+use Rattle.layout.specs.Memory.{size}
+use Rattle.chip.specs.declared.Control.{Control}
+use Rattle.chip.specs.declared.Chip.{Chip}
+use Rattle.chip.specs.declared.Call.{Call}
+use Rattle.chip.specs.State.{slots, freshOf}
+use Rattle.chip.specs.Operations.{operation}
+use Rattle.chip.specs.Calls.{answeredOf, memoryOf, memoryLeft}
+use Rattle.chip.specs.Starred.{listing}
+use Rattle.picture.specs.Drawing.{World, Seen, seen, start, next, after, chipSeen, Bytes, DrawingAgrees, Settles}
+use Rattle.picture.specs.Samples.{panes, SettlesOver, ListingSettles, PanesSettle}
+use Rattle.picture.proofs.Agree.{Between, start-holds, run-holds, drawing-agrees}
+use Rattle.picture.proofs.Samples.{listing-settles, panes-settle}
+use Rattle.runs.specs.Runs.{nextRan, ranFrom, ranOf, memoryAfter}
+use Rattle.runs.specs.Drawn.{seenOf, RunDraws, LeavesPicture, SamplesDrawn}
+
+-- ---- the chip's part of demand 3's run
+
+ran-after : (calls : List Call) (w : World) (refused : ℕ) → ranFrom (record { chip = w .chip; refused = refused }) (w .memory) calls .chip ≡ after slots w calls .chip
+unfolding ranFrom nextRan after next answeredOf memoryOf memoryLeft
+ran-after [] w refused = refl
+ran-after (x ∷ xs) w refused = ran-after xs (next slots w x) _
+
+memory-after' : (calls : List Call) (w : World) → memoryAfter (w .chip) (w .memory) calls ≡ after slots w calls .memory
+unfolding memoryAfter after next answeredOf memoryOf memoryLeft
+memory-after' [] w = refl
+memory-after' (x ∷ xs) w = memory-after' xs (next slots w x)
+
+seen-after : (calls : List Call) (w : World) → seenOf (w .chip) (w .memory) calls ≡ chipSeen slots w calls
+unfolding seenOf chipSeen next answeredOf memoryOf memoryLeft
+seen-after [] w = refl
+seen-after (x ∷ xs) w =
+    let given = answeredOf (w .chip) (w .memory) x in
+    ap (λ (l : List Seen). seen (operation x) (given .answer) (given .chip .control) ∷ l) (seen-after xs (next slots w x))
+
+-- ---- demand 3 for `run`
+
+pub run-draws : RunDraws
+unfolding RunDraws DrawingAgrees start freshOf ranOf
+run-draws P memory calls fit sized fair =
+    let w = start slots P memory in
+    let agrees = drawing-agrees slots P memory calls fit sized fair in
+    let between = run-holds slots P calls w (start-holds slots P memory fit sized) fair in (
+      seen-after calls w ∙ agrees .0,
+      ap (λ (c : Chip). c .control .hit) (ran-after calls w 0) ∙ sym (ap (λ (c : Control). c .hit) (between .alike)),
+      λ none. memory-after' calls w ∙ agrees .1 none,
+    )
+
+leaves-picture : (P : ℕ) (calls : List Call) → SettlesOver P calls → LeavesPicture P calls
+unfolding RunDraws LeavesPicture SettlesOver Settles
+leaves-picture P calls settles memory fit sized =
+    let kept = settles memory sized in
+    run-draws P memory calls fit sized (kept .0) .2 (kept .1)
+
+pub samples-drawn : SamplesDrawn
+unfolding SamplesDrawn ListingSettles PanesSettle
+samples-drawn = (λ P low high. leaves-picture P listing (listing-settles P low high), λ P low high. leaves-picture P panes (panes-settle P low high))

@@ -1,0 +1,59 @@
+-- A list of calls over a chip and the memory lent to it: each call is made on what the one before it left. Assumes nothing.
+use mathlib.Core.List.{List, [], _∷_}
+use Prim.Native.Nat.{ℕ, _+_}
+use lib.ListN.{getD}
+use Rattle.chip.specs.declared.Chip.{Chip}
+use Rattle.chip.specs.declared.Call.{Call}
+use Rattle.chip.specs.declared.Answer.{Answer}
+use Rattle.chip.specs.declared.Answer.the-variants.{Done, Refused}
+use Rattle.chip.specs.Calls.{answeredOf, memoryOf}
+use Rattle.runs.specs.declared.Ran.{Ran}
+
+-- ---- calls as numbers
+
+-- six numbers in a row are a call: operation number, operands a to d, data word. Fewer than six at the end are no call
+unfoldable pub callsIn : List ℕ → List Call
+callsIn [] = []
+callsIn (op ∷ []) = []
+callsIn (op ∷ a ∷ []) = []
+callsIn (op ∷ a ∷ b ∷ []) = []
+callsIn (op ∷ a ∷ b ∷ c ∷ []) = []
+callsIn (op ∷ a ∷ b ∷ c ∷ d ∷ []) = []
+callsIn (op ∷ a ∷ b ∷ c ∷ d ∷ given ∷ rest) = record { op = op; a = a; b = b; c = c; d = d; given = given } ∷ callsIn rest
+
+-- the call of the six numbers from a place on
+unfoldable pub callAt : List ℕ → ℕ → Call
+callAt numbers at = record {
+  op = getD numbers at 0;
+  a = getD numbers (at + 1) 0;
+  b = getD numbers (at + 2) 0;
+  c = getD numbers (at + 3) 0;
+  d = getD numbers (at + 4) 0;
+  given = getD numbers (at + 5) 0;
+}
+
+-- ---- calls one after the other
+
+-- one for a call that was refused
+unfoldable pub refusals : Answer → ℕ
+refusals (Done value pass written) = 0
+refusals (Refused why) = 1
+
+-- one call more
+unfoldable pub nextRan : Ran → List ℕ → Call → Ran
+nextRan ran memory x = record {
+  chip = answeredOf (ran .chip) memory x .chip;
+  refused = ran .refused + refusals (answeredOf (ran .chip) memory x .answer);
+}
+
+unfoldable pub ranFrom : Ran → List ℕ → List Call → Ran
+ranFrom ran memory [] = ran
+ranFrom ran memory (x ∷ xs) = ranFrom (nextRan ran memory x) (memoryOf (ran .chip) memory x) xs
+
+-- what all the calls leave: the chip, how many were refused, and the memory
+unfoldable pub ranOf : Chip → List ℕ → List Call → Ran
+ranOf chip memory calls = ranFrom (record { chip = chip; refused = 0 }) memory calls
+
+unfoldable pub memoryAfter : Chip → List ℕ → List Call → List ℕ
+memoryAfter chip memory [] = memory
+memoryAfter chip memory (x ∷ xs) = memoryAfter (answeredOf chip memory x .chip) (memoryOf chip memory x) xs
