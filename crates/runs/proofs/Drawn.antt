@@ -16,19 +16,20 @@ use Rattle.picture.specs.Samples.{panes, SettlesOver, ListingSettles, PanesSett
 use Rattle.picture.proofs.Agree.{Between, start-holds, run-holds, drawing-agrees}
 use Rattle.picture.proofs.Samples.{listing-settles, panes-settle}
 use Rattle.runs.specs.Runs.{nextRan, ranFrom, ranOf, memoryAfter}
-use Rattle.runs.specs.Drawn.{seenOf, RunDraws, LeavesPicture, SamplesDrawn}
+use Rattle.runs.specs.Drawn.{seenOf, RunDraws, IsPicture, LeavesPicture, SamplesDrawn}
 
 -- ---- the chip's part of demand 3's run
 
-ran-after : (calls : List Call) (w : World) (refused : ℕ) → ranFrom (record { chip = w .chip; refused = refused }) (w .memory) calls .chip ≡ after slots w calls .chip
+ran-after : (calls : List Call) (w : World) (refused : ℕ)
+    → ranFrom (record { chip = w .chip; refused = refused }) (w .memory) calls .chip ≡ after slots w calls .chip
 unfolding ranFrom nextRan after next answeredOf memoryOf memoryLeft
 ran-after [] w refused = refl
 ran-after (x ∷ xs) w refused = ran-after xs (next slots w x) _
 
-memory-after' : (calls : List Call) (w : World) → memoryAfter (w .chip) (w .memory) calls ≡ after slots w calls .memory
+left-after : (calls : List Call) (w : World) → memoryAfter (w .chip) (w .memory) calls ≡ after slots w calls .memory
 unfolding memoryAfter after next answeredOf memoryOf memoryLeft
-memory-after' [] w = refl
-memory-after' (x ∷ xs) w = memory-after' xs (next slots w x)
+left-after [] w = refl
+left-after (x ∷ xs) w = left-after xs (next slots w x)
 
 seen-after : (calls : List Call) (w : World) → seenOf (w .chip) (w .memory) calls ≡ chipSeen slots w calls
 unfolding seenOf chipSeen next answeredOf memoryOf memoryLeft
@@ -47,8 +48,13 @@ run-draws P memory calls fit sized fair =
     let between = run-holds slots P calls w (start-holds slots P memory fit sized) fair in (
       seen-after calls w ∙ agrees .0,
       ap (λ (c : Chip). c .control .hit) (ran-after calls w 0) ∙ sym (ap (λ (c : Control). c .hit) (between .alike)),
-      λ none. memory-after' calls w ∙ agrees .1 none,
+      λ none. left-after calls w ∙ agrees .1 none,
     )
+
+pub is-picture : (P : ℕ) (memory : List ℕ) (calls : List Call) (left : List ℕ) → Bytes memory → left ≡ memoryAfter (freshOf P) memory calls
+    → IsPicture P memory calls left
+unfolding RunDraws IsPicture
+is-picture P memory calls left fit e sized supposed none = e ∙ run-draws P memory calls fit sized supposed .2 none
 
 leaves-picture : (P : ℕ) (calls : List Call) → SettlesOver P calls → LeavesPicture P calls
 unfolding RunDraws LeavesPicture SettlesOver Settles

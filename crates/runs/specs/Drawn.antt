@@ -51,9 +51,15 @@ RunDraws = (P : ℕ) (memory : List ℕ) (calls : List Call)
     -- "and once no bytes wait, memory is that picture in every byte"
     × (NoneWaits (bookAfter P memory calls) → memoryAfter (freshOf P) memory calls ≡ flatAfter P memory calls .picture)
 
--- and for two lists that are known to keep to the premises and to end with no bytes waiting: nothing is left to suppose
+-- the demand's end for the memory that calls left: the lent memory is of bytes by its type, the rest is supposed
+unfoldable pub IsPicture : ℕ → List ℕ → List Call → List ℕ → Type 0
+IsPicture P memory calls left =
+    length memory ≡ size P → Supposed P memory calls → NoneWaits (bookAfter P memory calls) → left ≡ flatAfter P memory calls .picture
+
+-- and for the lists of Samples.antt, which keep to the premises and end with no bytes waiting: nothing is left to suppose
 unfoldable pub LeavesPicture : ℕ → List Call → Type 0
-LeavesPicture P calls = (memory : List ℕ) → Bytes memory → length memory ≡ size P → memoryAfter (freshOf P) memory calls ≡ flatAfter P memory calls .picture
+LeavesPicture P calls =
+    (memory : List ℕ) → Bytes memory → length memory ≡ size P → memoryAfter (freshOf P) memory calls ≡ flatAfter P memory calls .picture
 
 unfoldable pub SamplesDrawn : Type 0
 SamplesDrawn = ((P : ℕ) → 1 ≤ P → P ≤ 257 → LeavesPicture P listing) × ((P : ℕ) → 2 ≤ P → P ≤ 257 → LeavesPicture P panes)

@@ -22,7 +22,7 @@ callsIn (op ∷ a ∷ b ∷ c ∷ d ∷ []) = []
 callsIn (op ∷ a ∷ b ∷ c ∷ d ∷ given ∷ rest) = record { op = op; a = a; b = b; c = c; d = d; given = given } ∷ callsIn rest
 
 -- the call of the six numbers from a place on
-unfoldable pub callAt : List ℕ → ℕ → Call
+abbrev pub callAt : List ℕ → ℕ → Call
 callAt numbers at = record {
   op = getD numbers at 0;
   a = getD numbers (at + 1) 0;
