@@ -6,7 +6,8 @@ use lib.ListN.{length}
 use Rattle.layout.specs.Memory.{size}
 use Rattle.chip.specs.declared.Call.{Call}
 use Rattle.chip.specs.State.{slots}
-use Rattle.chip.specs.Starred.{ask, listing}
+use Rattle.chip.specs.Operations.{ask}
+use Rattle.chip.specs.Starred.{listing}
 use Rattle.picture.specs.Drawing.{start, Settles}
 
 -- on a fresh chip of P pages a bank, over any memory
