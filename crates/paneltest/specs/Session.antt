@@ -1,0 +1,73 @@
+-- 01, The small program: its run over the input, a byte at a time. proofs/Runs.antt shows that it prints what specs of crate lines say. Assumes nothing.
+use mathlib.Core.Path.{_≡_}
+use mathlib.Core.Bool.{cond}
+use mathlib.Core.List.{List, [], _∷_, _++_}
+use Prim.Native.Nat.{ℕ}
+use lib.Dec.{eqb}
+use Rattle.chip.specs.declared.Chip.{Chip}
+use Rattle.chip.specs.State.{freshOf}
+use Rattle.chip.specs.Calls.{answeredOf, memoryOf}
+use Rattle.lines.specs.declared.reader.Parsed.{Parsed}
+use Rattle.lines.specs.declared.reader.Parsed.the-variants.{Read, NotALine}
+use Rattle.lines.specs.Lines.{answerReply, noLineReply}
+use Rattle.lines.specs.Reading.{started, afterByte, ended}
+use Rattle.lines.specs.Printing.{printedLine, Stored}
+use Rattle.paneltest.specs.declared.session.Session.{Session}
+use Rattle.paneltest.specs.declared.session.Ran.{Ran}
+
+-- what a part of a run leaves: the session, memory, and what it printed
+pub record Run : Type 0 where
+  pub session : Session
+  pub memory : List ℕ
+  pub printed : List ℕ
+
+-- one part, and another after it
+abbrev pub joined : Run → Run → Run
+joined part next = record { session = next .session; memory = next .memory; printed = part .printed ++ next .printed }
+
+-- nothing read yet
+abbrev pub startRun : Session → List ℕ → Run
+startRun session memory = record { session = session; memory = memory; printed = [] }
+
+-- 01, The small program: P = 2 and a fresh chip
+unfoldable pub begun : Session
+begun = record { chip = freshOf 2; reader = started }
+
+-- ---- a line
+
+-- 01, Numbers, 9: a line that is no call gives 9, and changes nothing
+unfoldable pub lineRun : Parsed → Chip → List ℕ → Run
+lineRun (Read call) chip memory = record {
+  session = record { chip = answeredOf chip memory call .chip; reader = started };
+  memory = memoryOf chip memory call;
+  printed = printedLine (answerReply (answeredOf chip memory call .answer));
+}
+lineRun NotALine chip memory = record { session = record { chip = chip; reader = started }; memory = memory; printed = printedLine noLineReply }
+
+-- ---- the input
+
+-- 01, The small program: a line ends with byte 10
+unfoldable pub byteRun : Session → List ℕ → ℕ → Run
+byteRun session memory x = cond (eqb x 10)
+    (lineRun (ended (session .reader)) (session .chip) memory)
+    (startRun (record { chip = session .chip; reader = afterByte (session .reader) x }) memory)
+
+unfoldable pub ran : Run → List ℕ → Run
+ran run [] = run
+ran run (x ∷ xs) = ran (joined run (byteRun (run .session) (run .memory) x)) xs
+
+-- 01, The small program: a last line may lack byte 10
+unfoldable pub closeRun : Session → List ℕ → Run
+closeRun session memory = cond (session .reader .begun) (lineRun (ended (session .reader)) (session .chip) memory) (startRun session memory)
+
+-- what the program does with its input as it is read, in pieces of any length, and at its end
+unfoldable pub ranAll : Run → List (List ℕ) → Run
+ranAll run [] = joined run (closeRun (run .session) (run .memory))
+ranAll run (piece ∷ pieces) = ranAll (joined run (ran (startRun (run .session) (run .memory)) piece)) pieces
+
+-- ---- what a function leaves: its answer, memory and the output, as a run has them
+
+pub record Leaves (run : Run) (r : Ran) (memory : List ℕ) (at : ℕ) (before after : List ℕ) : Type 0 where
+  pub session : r .session ≡ run .session
+  pub memory-left : memory ≡ run .memory
+  pub output : Stored before at (run .printed) after (r .at)
