@@ -6,6 +6,7 @@ use Rattle.chip.specs.declared.Chip.{Chip}
 use Rattle.chip.specs.declared.Call.{Call}
 use Rattle.chip.specs.declared.Answer.{Answer}
 use Rattle.chip.specs.declared.Answer.the-variants.{Done, Refused}
+use Rattle.chip.specs.Operations.{ask}
 use Rattle.chip.specs.Calls.{answeredOf, memoryOf}
 use Rattle.runs.specs.declared.Ran.{Ran}
 
@@ -19,18 +20,13 @@ callsIn (op ∷ a ∷ []) = []
 callsIn (op ∷ a ∷ b ∷ []) = []
 callsIn (op ∷ a ∷ b ∷ c ∷ []) = []
 callsIn (op ∷ a ∷ b ∷ c ∷ d ∷ []) = []
-callsIn (op ∷ a ∷ b ∷ c ∷ d ∷ given ∷ rest) = record { op = op; a = a; b = b; c = c; d = d; given = given } ∷ callsIn rest
+callsIn (op ∷ a ∷ b ∷ c ∷ d ∷ given ∷ rest) = ask op a b c d given ∷ callsIn rest
 
 -- the call of the six numbers from a place on
 abbrev pub callAt : List ℕ → ℕ → Call
-callAt numbers at = record {
-  op = getD numbers at 0;
-  a = getD numbers (at + 1) 0;
-  b = getD numbers (at + 2) 0;
-  c = getD numbers (at + 3) 0;
-  d = getD numbers (at + 4) 0;
-  given = getD numbers (at + 5) 0;
-}
+callAt numbers at =
+    ask (getD numbers at 0) (getD numbers (at + 1) 0) (getD numbers (at + 2) 0) (getD numbers (at + 3) 0) (getD numbers (at + 4) 0)
+    (getD numbers (at + 5) 0)
 
 -- ---- calls one after the other
 
