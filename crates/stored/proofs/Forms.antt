@@ -1,44 +1,18 @@
 -- What the tests of a well formed block come to, as code makes them. Assumes nothing.
 use mathlib.Core.Path.{_≡_, refl, sym, ap, ap₂, _∙_}
 use mathlib.Core.Logic.{_≢_}
-use mathlib.Core.Bool.{Bool, true, false, not, _&&_, _||_}
+use mathlib.Core.Bool.{Bool, true, false, not, _&&_}
 use mathlib.Core.List.{List, [], _∷_}
 use Prim.Native.Nat.{ℕ, zero, suc, _+_, _*_, _/_, _%_, _^_, _<_, _≤_}
 use native.Mathlib.Decide.{ℕ-discrete}
-use native.Mathlib.Nat.{mod-eq-of-lt}
 use native.Mathlib.Omega.{arith}
-use lib.Bits.{and-mask}
-use lib.Dec.{eqb, leb, ltb}
+use lib.Dec.{eqb}
 use lib.ListN.{getD}
-use borrow.Author.Tests.{eq-eqb, ne-eqb, le-leb, not-true, not-false}
-use Rattle.bits.specs.Bits.{joined, every, within}
+use borrow.Author.Tests.{eq-eqb, ne-eqb, not-true, not-false}
+use Rattle.bits.specs.Bits.{joined}
 use Rattle.bank.specs.Words.{halfAt, wordAt}
 use Rattle.bank.proofs.Words.{half-at-lt}
-use Rattle.chip.specs.State.{closed, pageFits, storable}
 use Rattle.stored.specs.Block.{halvesAt, header, same}
-
--- ---- an open page
-
-pub page-test : (P page : ℕ) → page < 2 ^ 16 → leb ((page + 1) % 2 ^ 16) P ≡ pageFits P page
-unfolding pageFits closed
-page-test P page h = go (ℕ-discrete page 65535) (decided P page)
-  where
-    decided : (P page : ℕ) → leb (page + 1) P ≡ ltb page P
-    decided P page = ap (λ (n : ℕ). leb n P) (omega arith)
-
-    or-true : (b : Bool) → true ≡ (b || true)
-    or-true true = refl
-    or-true false = refl
-
-    or-false : (b : Bool) → b ≡ (b || false)
-    or-false true = refl
-    or-false false = refl
-
-    go : Dec (page ≡ 65535) → leb (page + 1) P ≡ ltb page P → leb ((page + 1) % 2 ^ 16) P ≡ (ltb page P || eqb page 65535)
-    go (yes e) q = rw (e, eq-eqb 65535 65535 refl) (le-leb 0 P (omega arith) ∙ or-true (ltb 65535 P))
-    go (no f) q =
-        let small : (page + 1) % 2 ^ 16 ≡ page + 1 = mod-eq-of-lt (omega arith) in
-        rw (small, q, ne-eqb page 65535 f) (or-false (ltb page P))
 
 -- ---- the header
 
@@ -85,17 +59,6 @@ header-test s bytes =
     ∙ ap (λ (t : Bool). eqb (halfAt s 2) 8 && t)
     (ap₂ _&&_ (pair-test s 4 16 24 bytes (omega arith))
     (ap₂ _&&_ (pair-test s 8 52 60 bytes (omega arith)) (pair-test s 12 92 348 bytes (omega arith)))))
-
--- ---- registers 5 to 7 alone can hold a bit that is not allowed
-
-any-bits : (x : ℕ) → x < 2 ^ 32 → within x 0xffff_ffff ≡ true
-unfolding within
-any-bits x h = eq-eqb _ _ (and-mask x 32 ∙ mod-eq-of-lt h)
-
-pub register-test : (l : List ℕ) → ((n : ℕ) → getD l n 0 < 2 ^ 32) → every 7 (λ n. within (getD l n 0) (getD storable n 0))
-    ≡ (within (getD l 4 0) 0x2f2f_2f2f && within (getD l 5 0) 0x0003_0707 && within (getD l 6 0) 1)
-unfolding every storable
-register-test l fit = rw (any-bits (getD l 0 0) (fit 0), any-bits (getD l 1 0) (fit 1), any-bits (getD l 2 0) (fit 2), any-bits (getD l 3 0) (fit 3))
 
 -- ---- a test of a result that equals x
 

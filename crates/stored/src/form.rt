@@ -8,13 +8,6 @@ ghost use Rattle.chip.specs.State.{openPage, pageFits, storable};
 ghost use Rattle.stored.specs.Block.{halvesAt, header, same, decodeControl, wellFormedBlock};
 use super::fields;
 
-// Whether an open page is below P or 65535: one more, modulo 2^16, is at most P.
-fn page_fits(pages: u16, page: u16) -> bool
-    ensures { λ r. ⌜ r ≡ pageFits pages page ⌝ }
-{
-    std::num::wrapping_add_u16(page, 1) <= pages
-}
-
 fn pages_fit(pages: u16) -> bool
     ensures { λ r. ⌜ r ≡ pagesFit pages ⌝ }
 {
@@ -43,16 +36,16 @@ fn banks_fit(s: &[u8]) -> bool
     ensures { λ r. ⌜ r ≡ every 4 (λ bank. pageFits (decodeControl (now (s .entry)) .pages) (openPage (decodeControl (now (s .entry)) .banks) bank)) ⌝ }
 {
     let pages = fields::pages(s);
-    if !page_fits(pages, fields::open_page(s, 0)) {
+    if !chip::form::page_fits(pages, fields::open_page(s, 0)) {
         return false;
     }
-    if !page_fits(pages, fields::open_page(s, 1)) {
+    if !chip::form::page_fits(pages, fields::open_page(s, 1)) {
         return false;
     }
-    if !page_fits(pages, fields::open_page(s, 2)) {
+    if !chip::form::page_fits(pages, fields::open_page(s, 2)) {
         return false;
     }
-    page_fits(pages, fields::open_page(s, 3))
+    chip::form::page_fits(pages, fields::open_page(s, 3))
 }
 
 // Registers 1 to 4 may hold any bits.

@@ -1,5 +1,6 @@
 -- `stored::form::registers_fit` meets its contract: registers 1 to 4 hold any bits. Assumes nothing.
-use Rattle.stored.proofs.Forms.{register-test, passed, failed}
+use Rattle.chip.proofs.Forms.{register-test}
+use Rattle.stored.proofs.Forms.{passed, failed}
 use Rattle.stored.proofs.Places.{words-lt}
 use Rattle.stored.specs.Block.{wordsAt, decodeControl}
 use Rattle.chip.specs.State.{storable}

@@ -1,11 +1,11 @@
--- `stored::form::page_fits` meets its contract: the sum wraps to 0 at 65535 alone. Assumes nothing.
-use Rattle.stored.proofs.Forms.{page-test}
+-- `chip::form::page_fits` meets its contract: the sum wraps to 0 at 65535 alone. Assumes nothing.
+use Rattle.chip.proofs.Forms.{page-test}
 use lib.Dec.{leb}
 use Prim.Native.Nat.{ℕ, _+_, _-_, _*_, _<_, _≤_}
 use mathlib.Core.Path.{_≡_, refl, sym, ap, _∙_}
 use borrow.Author.Needs.{needs}
-use Rattle.stored.proofs.form.page_fits.Statement.{statement}
-use Rattle.stored.proofs.form.page_fits.Tie as tie
+use Rattle.chip.proofs.form.page_fits.Statement.{statement}
+use Rattle.chip.proofs.form.page_fits.Tie as tie
 
 returns : tie.Need-returns
 returns c = ap (λ (n : ℕ). leb n (c .before .args .pages)) (c .wrapping-add-u16 .ensures) ∙ page-test (c .before .args .pages) (c .before .args .page) (search needs)

@@ -1,0 +1,19 @@
+-- `chip::form::registers_fit` meets its contract: registers 1 to 4 hold any bits. Assumes nothing.
+use Prim.Native.Nat.{ℕ, _<_, _^_}
+use lib.ListN.{getD}
+use mir.Syntax.{w32}
+use mir.Val.{Fits}
+use borrow.Author.Needs.{needs}
+use Rattle.chip.proofs.Forms.{register-test}
+use Rattle.chip.proofs.form.registers_fit.Statement.{statement}
+use Rattle.chip.proofs.form.registers_fit.Tie as tie
+
+-- a register is a 32-bit number
+fit : (c : tie.Start) (n : ℕ) → getD (c .args .t1) n 0 < 2 ^ 32
+fit c n = let f : Fits w32 (getD (c .args .t1) n 0) = search needs in f .fits
+
+returns : tie.Need-returns
+returns c = cc (register-test (c .before .before .before .args .t1) (fit (c .before .before .before)))
+
+pub registers-fit-spec : {M : Type 1} → statement M
+registers-fit-spec = tie.close (tie.spec (λ c. search needs) (λ c κs. search needs) (λ c. search needs) (λ c κs. search needs) (λ c. search needs) (λ c κs. search needs) returns)
