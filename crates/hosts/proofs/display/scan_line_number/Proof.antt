@@ -1,0 +1,21 @@
+-- `hosts::display::scan_line_number` meets its contract: of a well formed state the numbers are layout's. Assumes nothing.
+use mathlib.Core.Path.{_∙_}
+use borrow.Author.Needs.{needs}
+use Rattle.layout.specs.Numbers.{first}
+use Rattle.layout.proofs.Numbers.{test-holds, test-fails}
+use Rattle.chip.specs.Refusals.{scanLineNumber}
+use Rattle.chip.proofs.Forms.{line-told}
+use Rattle.hosts.proofs.display.scan_line_number.Statement.{statement}
+use Rattle.hosts.proofs.display.scan_line_number.Tie as tie
+
+returns : tie.Need-returns
+unfolding scanLineNumber first
+returns c = rw (test-fails (c .before .well-formed .ensures) (c .if1 .taken))
+
+returns-2 : tie.Need-returns-2
+returns-2 c =
+    let a = c .before .before .before .before .args in
+    c .line-number .ensures ∙ line-told (a .control) (a .length) (a .bank) (a .page) (a .line) (test-holds (c .before .before .before .well-formed .ensures) (c .before .before .if1 .left))
+
+pub scan-line-number-spec : {M : Type 1} → statement M
+scan-line-number-spec = tie.close (tie.spec (λ c κs. search needs) returns (λ c. search needs) (λ c κs. search needs) returns-2)
