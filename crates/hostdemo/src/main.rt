@@ -1,0 +1,122 @@
+// A host of one chip, with one page to a bank: it loads a block into a slot, writes a word there, writes the block back, and shows the scan line on
+// which that word stands. docs/HOSTS.md explains it.
+use chip::Answer;
+use chip::Answered;
+use chip::Call;
+use chip::Chip;
+use chip::Control;
+ghost use mathlib.Core.Path.{_≡_};
+ghost use Rattle.chip.specs.Calls.{answeredOf, memoryOf};
+
+// Says what a call answered. The answer is taken apart before its value is read.
+fn tell(name: &[u8], answer: Answer) {
+    io::write_all(1, name);
+    let Answer::Done {
+        value,
+        pass: _,
+        written: _,
+    } = answer
+    else {
+        io::write_all(1, b": refused with ");
+        io::print_decimal(1, chip::answers::number(answer) as u64);
+        io::write_all(1, b"\n");
+        return;
+    };
+    io::write_all(1, b": done, value ");
+    io::print_decimal(1, value as u64);
+    io::write_all(1, b"\n");
+}
+
+// Lends a chip to a call by reference: the one function here that has a reference to a struct, and so the one that is proved by a walk by hand.
+fn advanced(chip: Chip, memory: &mut [u8], x: Call) -> Answered
+    ensures { λ r. ⌜ (r ≡ answeredOf chip (now (memory .entry)) x) × (now (memory .exit) ≡ memoryOf chip (now (memory .entry)) x) ⌝ }
+{
+    let mut held = chip;
+    let answer = hosts::lent::call_on(&mut held, memory, x);
+    Answered {
+        answer: answer,
+        chip: held,
+    }
+}
+
+// Makes a call, says what it answered, and gives back the chip that it leaves.
+fn step(name: &[u8], chip: Chip, memory: &mut [u8], x: Call) -> Chip
+    ensures { λ r. ⌜ (r ≡ answeredOf chip (now (memory .entry)) x .chip) × (now (memory .exit) ≡ memoryOf chip (now (memory .entry)) x) ⌝ }
+{
+    let done = advanced(chip, memory, x);
+    let answer = done.answer;
+    tell(name, answer);
+    done.chip
+}
+
+// Shows the first word of a scan line, or says with which number it is refused.
+fn show(control: Control, memory: &[u8], bank: u32, page: u32, line: u32) {
+    let shown = hosts::display::scan_line(control, memory, bank, page, line);
+    if shown.len() < 4 {
+        io::write_all(1, b"scan line: refused with ");
+        let number = hosts::display::scan_line_number(control, memory.len(), bank, page, line);
+        io::print_decimal(1, number as u64);
+        io::write_all(1, b"\n");
+        return;
+    }
+    io::write_all(1, b"scan line: begins with ");
+    let word = bits::join(shown[0], shown[1], shown[2], shown[3]);
+    io::print_decimal(1, word as u64);
+    io::write_all(1, b"\n");
+}
+
+fn call(op: u32, a: u32, b: u32, c: u32, d: u32, given: u32) -> Call {
+    Call {
+        op: op,
+        a: a,
+        b: b,
+        c: c,
+        d: d,
+        given: given,
+    }
+}
+
+// Opens page 0 of bank 0 and loads its block 0 into slot 0.
+fn load(fresh: Chip, memory: &mut [u8]) -> Chip {
+    let opened = step(b"access page", fresh, memory, call(1, 0, 0, 0, 0, 0));
+    step(b"read block", opened, memory, call(4, 0, 0, 0, 0, 0))
+}
+
+// Writes a word into slot 0, all four of its bytes.
+fn draw(loaded: Chip, memory: &mut [u8]) -> Chip {
+    step(
+        b"data write",
+        loaded,
+        memory,
+        call(11, 0, 0, 15, 3, 0x0102_0304),
+    )
+}
+
+// A word that waits in the pixel buffer is not on the scan line: it is there after the write-back.
+fn write_back(drawn: Chip, memory: &mut [u8]) -> Chip {
+    let before = drawn.control;
+    show(before, memory, 0, 0, 0);
+    let back = step(b"write block", drawn, memory, call(5, 0, 0, 0, 0, 0));
+    let after = back.control;
+    show(after, memory, 0, 0, 0);
+    back
+}
+
+// Page 1 is not below P, and the bank is open already.
+fn be_refused(chip: Chip, memory: &mut [u8]) {
+    let control = chip.control;
+    show(control, memory, 0, 1, 0);
+    step(b"access page", chip, memory, call(1, 0, 0, 0, 0, 0));
+}
+
+fn main() {
+    let mut memory = [0u8; 5120];
+    let made = chip::fresh::make_fresh(chip::fresh::fresh(1), 1);
+    let answer = made.answer;
+    tell(b"fresh chip", answer);
+    let fresh = made.chip;
+    let loaded = load(fresh, &mut memory);
+    let drawn = draw(loaded, &mut memory);
+    let back = write_back(drawn, &mut memory);
+    be_refused(back, &mut memory);
+}
