@@ -6,7 +6,7 @@ use chip::Call;
 use chip::Chip;
 use chip::Control;
 ghost use mathlib.Core.Path.{_≡_};
-ghost use Rattle.chip.specs.Calls.{answeredOf, memoryOf};
+ghost use Rattle.chip.specs.Calls.{answeredOf, memoryOf, freshAnswered};
 
 // Says what a call answered. The answer is taken apart before its value is read.
 fn tell(name: &[u8], answer: Answer) {
@@ -27,7 +27,19 @@ fn tell(name: &[u8], answer: Answer) {
     io::write_all(1, b"\n");
 }
 
-// Lends a chip to a call by reference: the one function here that has a reference to a struct, and so the one that is proved by a walk by hand.
+// Lends a chip to the call that makes it fresh. This function and the next have a reference to a struct, and so are proved by a walk by hand.
+fn freshened(chip: Chip, pages: u32) -> Answered
+    ensures { λ r. ⌜ r ≡ freshAnswered chip pages ⌝ }
+{
+    let mut held = chip;
+    let answer = hosts::lent::fresh_on(&mut held, pages);
+    Answered {
+        answer: answer,
+        chip: held,
+    }
+}
+
+// Lends a chip to any other call.
 fn advanced(chip: Chip, memory: &mut [u8], x: Call) -> Answered
     ensures { λ r. ⌜ (r ≡ answeredOf chip (now (memory .entry)) x) × (now (memory .exit) ≡ memoryOf chip (now (memory .entry)) x) ⌝ }
 {
@@ -109,9 +121,10 @@ fn be_refused(chip: Chip, memory: &mut [u8]) {
     step(b"access page", chip, memory, call(1, 0, 0, 0, 0, 0));
 }
 
+// A chip of no pages is not well formed, and is made fresh all the same.
 fn main() {
     let mut memory = [0u8; 5120];
-    let made = chip::fresh::make_fresh(chip::fresh::fresh(1), 1);
+    let made = freshened(chip::fresh::fresh(0), 1);
     let answer = made.answer;
     tell(b"fresh chip", answer);
     let fresh = made.chip;
