@@ -2,13 +2,13 @@
 use mathlib.Core.Path.{_≡_, refl, sym, _∙_}
 use mathlib.Core.Bool.{Bool, true, false, cond, not, _&&_, and-true, and-false}
 use mathlib.Core.List.{List}
-use Prim.Native.Nat.{ℕ, zero, suc, _/_, _^_, _<_}
+use Prim.Native.Nat.{ℕ, _/_, _^_, _<_}
 use native.Mathlib.Nat.{mod-lt}
 use native.Mathlib.Omega.{arith}
 use lib.Dec.{lit<}
 use Rattle.bits.specs.Bits.{bit, byte, merge}
 use Rattle.bits.proofs.Laws.{bit-zero, word-ext}
-use Rattle.bits.proofs.Merges.{merge-lt}
+use Rattle.bits.proofs.Bytes.{each-byte}
 use Rattle.pixel.specs.declared.Write.{Write}
 use Rattle.pixel.specs.Pixel.{matchPasses, magnitudePasses, enabledBy, codeOf, fromConstant, newWord, rasterWord, mergeWord}
 use Rattle.pixel.specs.Registers.{
@@ -24,14 +24,9 @@ use Rattle.pixel.specs.Registers.{
 }
 use Rattle.pixel.specs.Writes.{used, intoSlot, intoWord, passesMatch, passesMagnitude, passOut, enabled, hits, taken, result, newByte, outcomeOf}
 use Rattle.pixel.proofs.Functions.{gc}
-use Rattle.pixel.proofs.Uses.{bit-raster, bit-new, merge-outside, merge-none, byte-merge}
+use Rattle.pixel.proofs.Uses.{bit-raster, bit-new, merge-outside, byte-merge}
 
 -- ---- a stateful write
-
--- it uses the registers as they are
-pub used-stateful : (registers : List ℕ) (w : Write) → w .stateless ≡ false → used registers w ≡ registers
-unfolding used
-used-stateful registers w stateful = rw stateful
 
 module _ (registers : List ℕ) (w : Write) (stateful : w .stateless ≡ false) (old : ℕ) where
   pub hits-stateful : hits registers w old ≡ enabled registers w old
@@ -54,22 +49,14 @@ module _ (registers : List ℕ) (w : Write) (stateful : w .stateless ≡ false) 
 
 -- ---- a stateless write
 
--- what holds of each byte of a word
-each : (P : ℕ → Type 0) → P 0 → P 1 → P 2 → P 3 → (n : ℕ) → n < 4 → P n
-each P a b c d zero h = a
-each P a b c d (suc zero) h = b
-each P a b c d (suc (suc zero)) h = c
-each P a b c d (suc (suc (suc zero))) h = d
-each P a b c d (suc (suc (suc (suc n)))) h = absurd (omega arith)
-
 -- the fresh ROP control copies the data in all bytes
 fresh-code : (n : ℕ) → n < 4 → codeOf 0x0303_0303 n ≡ 3
 unfolding codeOf
-fresh-code = each (λ n. codeOf 0x0303_0303 n ≡ 3) refl refl refl refl
+fresh-code = each-byte (λ n. codeOf 0x0303_0303 n ≡ 3) refl refl refl refl
 
 fresh-data : (n : ℕ) → n < 4 → fromConstant 0x0303_0303 n ≡ false
 unfolding fromConstant bit
-fresh-data = each (λ n. fromConstant 0x0303_0303 n ≡ false) refl refl refl refl
+fresh-data = each-byte (λ n. fromConstant 0x0303_0303 n ≡ false) refl refl refl refl
 
 fresh-raster : (given constant old k : ℕ) → k < 32 → bit (rasterWord 0x0303_0303 (newWord 0x0303_0303 given constant) old) k ≡ bit given k
 fresh-raster given constant old k h =
@@ -108,15 +95,6 @@ module _ (registers : List ℕ) (w : Write) (old dest : ℕ) where
   pub outcome-outside : (k : ℕ) → k < 32 → bit (planeMask (used registers w)) k ≡ false → bit (outcomeOf registers w old dest .word) k ≡ bit dest k
   unfolding outcomeOf
   outcome-outside k h e = merge-outside dest (result registers w old) (planeMask (used registers w)) (taken registers w old) k h e
-
-  -- where no byte is taken, nothing changes
-  pub outcome-none : taken registers w old ≡ 0 → dest < 2 ^ 32 → outcomeOf registers w old dest .word ≡ dest
-  unfolding outcomeOf
-  outcome-none e h = rw e (merge-none dest (result registers w old) (planeMask (used registers w)) h)
-
-  pub outcome-lt : outcomeOf registers w old dest .word < 2 ^ 32
-  unfolding outcomeOf mergeWord
-  outcome-lt = merge-lt 32 _ dest (result registers w old)
 
 -- of two numbers below n, either is
 either-lt : (b : Bool) {n x y : ℕ} → x < n → y < n → cond b x y < n

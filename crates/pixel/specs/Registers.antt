@@ -7,6 +7,7 @@ use lib.ListN.{getD}
 unfoldable pub register : List ℕ → ℕ → ℕ
 register registers number = getD registers (number - 1) 0
 
+-- 01, Chip state, table: n and register
 abbrev pub planeMask : List ℕ → ℕ
 planeMask registers = register registers 1
 

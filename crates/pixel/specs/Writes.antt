@@ -40,6 +40,7 @@ unfoldable pub intoWord : List ℕ → Write → ℕ
 intoWord registers w = cond (bit (writeAddressControl (used registers w)) 0) (w .given / 2 ^ 24 % 8) (w .word)
 
 module _ (registers : List ℕ) (w : Write) (old : ℕ) where
+  -- 01, Data write: match test on OLD and NEW; and magnitude test. Both are under the registers that the write uses
   unfoldable pub passesMatch : Bool
   passesMatch =
       let r = used registers w in
@@ -62,7 +63,7 @@ module _ (registers : List ℕ) (w : Write) (old : ℕ) where
   unfoldable pub hits : Bool
   hits = not (w .stateless) && enabled
 
-  -- the bytes that it takes: those with their enable bit set, where it is enabled
+  -- 01, Data write: the bytes that it takes: enabled, each byte n with enable bit n set
   unfoldable pub taken : ℕ
   taken = cond enabled (w .enables) 0
 
@@ -76,7 +77,7 @@ module _ (registers : List ℕ) (w : Write) (old : ℕ) where
   unfoldable pub newByte : ℕ → ℕ → ℕ
   newByte n dest = mergeByte (bit taken n) (byte (planeMask (used registers w)) n) dest (byte result n)
 
-  -- a data write on words, whole, where `dest` is the destination's word: pass-out, enabled, the bytes taken, and the word that it leaves
+  -- 01, Data write: all of it that is on words, where `dest` is the destination's word: pass-out, enabled, the bytes taken, and the word that it leaves
   unfoldable pub outcomeOf : ℕ → Outcome
   outcomeOf dest = record {
     pass = passOut;
