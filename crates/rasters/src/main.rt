@@ -43,6 +43,7 @@ fn agrees_everywhere(code: u32) -> bool
         & agrees(code, 0x8000_0001, 0xc000_0003)
 }
 
+// Writes the line of a code.
 fn compare(code: u32, name: &[u8], databook: &[u8])
     requires { ⌜ code < 16 ⌝ }
 {
@@ -58,7 +59,7 @@ fn compare(code: u32, name: &[u8], databook: &[u8])
     }
 }
 
-fn codes_0_to_7() {
+fn main() {
     compare(0, b"clear", b"All bits zero");
     compare(1, b"and", b"NEW and OLD");
     compare(2, b"andReverse", b"NEW and ~OLD");
@@ -67,9 +68,6 @@ fn codes_0_to_7() {
     compare(5, b"noop", b"OLD");
     compare(6, b"xor", b"NEW xor OLD");
     compare(7, b"or", b"NEW or OLD");
-}
-
-fn codes_8_to_15() {
     compare(8, b"nor", b"~NEW and ~OLD");
     compare(9, b"equiv", b"~NEW xor OLD");
     compare(10, b"invert", b"~OLD");
@@ -78,9 +76,4 @@ fn codes_8_to_15() {
     compare(13, b"orInverted", b"~NEW or OLD");
     compare(14, b"nand", b"~NEW or ~OLD");
     compare(15, b"set", b"All bits one");
-}
-
-fn main() {
-    codes_0_to_7();
-    codes_8_to_15();
 }
