@@ -5,7 +5,7 @@ ghost use Prim.Native.Nat.{_+_, _*_, _^_, _<_};
 ghost use lib.ListN.{length};
 ghost use Rattle.bank.specs.Words.{halfAt, putHalf, wordAt, putWord};
 
-// The bytes come as numbers of their own, so that their range is known.
+// The 16 bits of two bytes, the lower first. They come as numbers of their own, so that their range is known.
 fn join_two(a: u8, b: u8) -> u16
     ensures { λ r. ⌜ r ≡ a + b * 2 ^ 8 ⌝ }
 {
