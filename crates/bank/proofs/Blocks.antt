@@ -23,11 +23,11 @@ in-line w n h = omega arith
 in-column : (w n : ℕ) → n < 4 → (4 * w + n) % 8 ≡ 4 * w % 8 + n
 in-column w n h = omega arith
 
-pub page-word : (k w n : ℕ) → n < 4 → inPage k (4 * w + n) ≡ inPage k (4 * w) + n
+page-word : (k w n : ℕ) → n < 4 → inPage k (4 * w + n) ≡ inPage k (4 * w) + n
 unfolding inPage onLine lineOf columnOf
 page-word k w n h = rw (in-line w n h, in-column w n h) (omega arith)
 
-pub bank-word : (page k w n : ℕ) → n < 4 → inBank page (inPage k (4 * w + n)) ≡ page * 1280 + inPage k (4 * w) + n
+bank-word : (page k w n : ℕ) → n < 4 → inBank page (inPage k (4 * w + n)) ≡ page * 1280 + inPage k (4 * w) + n
 unfolding inBank
 bank-word page k w n h = rw (page-word k w n h) (omega arith)
 
@@ -35,12 +35,12 @@ bank-word page k w n h = rw (page-word k w n h) (omega arith)
 pub word-in-page : (k w : ℕ) → k < 40 → w < 8 → inPage k (4 * w) + 3 < 1280
 word-in-page k w hk hw = rw (page-word k w 3 (omega arith)) at (inPage-lt k (4 * w + 3) hk (omega arith))
 
-pub slot-word-at : (slot w n : ℕ) → inSlot slot (4 * w + n) ≡ slot * 32 + 4 * w + n
+slot-word-at : (slot w n : ℕ) → inSlot slot (4 * w + n) ≡ slot * 32 + 4 * w + n
 unfolding inSlot
 slot-word-at slot w n = sym (add-assoc (slot * 32) (4 * w) n)
 
 -- byte n of a word merged with the slot's is what a write-back makes of that byte of the block
-pub back-word : (part pixels : List ℕ) (a slot mask tag w n : ℕ)
+back-word : (part pixels : List ℕ) (a slot mask tag w n : ℕ)
     → ((i : ℕ) → getD part i 0 < 2 ^ 8) → ((i : ℕ) → getD pixels i 0 < 2 ^ 8) → n < 4
     → byte (mergeWord (wordAt part a) (wordAt pixels (slot * 32 + 4 * w)) mask (tag / 2 ^ (4 * w))) n
     ≡ backByte mask tag (λ i. getD pixels (inSlot slot i) 0) (4 * w + n) (getD part (a + n) 0)

@@ -5,7 +5,7 @@ use lib.ListN.{getD}
 use Rattle.bits.specs.Bits.{byte, joined}
 use Rattle.bank.specs.Update.{update}
 
--- the number of 16 bits at place p
+-- 01, Chip state: stored little endian: the number of 16 bits at place p
 unfoldable pub halfAt : List ℕ → ℕ → ℕ
 halfAt s p = getD s p 0 + getD s (p + 1) 0 * 2 ^ 8
 
@@ -13,7 +13,7 @@ halfAt s p = getD s p 0 + getD s (p + 1) 0 * 2 ^ 8
 unfoldable pub putHalf : ℕ → ℕ → List ℕ → List ℕ
 putHalf p x s = update 2 (λ n. p + n) (λ n was. byte x n) s
 
--- the number of 32 bits at place p: byte 0 of a word is its bits 7 to 0
+-- 01, Memory: byte 0 of a word is its bits 7 to 0: the number of 32 bits at place p
 unfoldable pub wordAt : List ℕ → ℕ → ℕ
 wordAt s p = joined (getD s p 0) (getD s (p + 1) 0) (getD s (p + 2) 0) (getD s (p + 3) 0)
 

@@ -9,7 +9,7 @@ use lib.ListN.{length, getD, set}
 use lib.Seq.{ext-getD, getD-set-same, getD-set-other}
 use Rattle.layout.specs.Columns.{table}
 
-pub length-table : (n : ℕ) (f : ℕ → ℕ) → length (table n f) ≡ n
+length-table : (n : ℕ) (f : ℕ → ℕ) → length (table n f) ≡ n
 unfolding table
 length-table zero f = refl
 length-table (suc n) f = ap suc (length-table n (λ k. f (suc k)))
