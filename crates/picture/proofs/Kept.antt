@@ -7,8 +7,8 @@ use Prim.Native.Nat.{ℕ, zero, suc}
 use lib.Dec.{eqb}
 use lib.ListN.{getD, set}
 use lib.Seq.{getD-set-other}
-use borrow.Author.Tests.{eq-eqb, ne-eqb, eqb-true, not-true}
-use Rattle.layout.proofs.Numbers.{not-not, and-left, and-right}
+use borrow.Author.Tests.{eq-eqb, ne-eqb, eqb-true, not-true, not-false}
+use Rattle.layout.proofs.Numbers.{and-left, and-right}
 use Rattle.pixel.specs.declared.Write.{Write}
 use Rattle.pixel.specs.Registers.{planeMask}
 use Rattle.pixel.specs.Writes.{intoSlot}
@@ -92,7 +92,7 @@ pub on-block : (bank page block : ℕ) (s : Stand) → not (offBlock bank page b
 unfolding offBlock
 on-block bank page block none e = absurd (false≢true e)
 on-block bank page block (at b p k) e =
-    let all = not-not (eqb b bank && eqb p page && eqb k block) (not-true _ e) in
+    let all = not-false (eqb b bank && eqb p page && eqb k block) (not-true _ e) in
     let two = and-left (eqb b bank && eqb p page) (eqb k block) all in
     rw (
       eqb-true b bank (and-left (eqb b bank) (eqb p page) two),
