@@ -14,14 +14,7 @@ use Rattle.bits.proofs.Laws.{byte-lt}
 use Rattle.bank.specs.Update.{update}
 use Rattle.bank.specs.Work.{inSlot}
 use Rattle.bank.specs.Words.{halfAt, putHalf, wordAt, putWord}
-use Rattle.bank.proofs.Updates.{
-  length-update,
-  update-same,
-  update-at,
-  update-ext,
-  update-more,
-  update-all,
-}
+use Rattle.bank.proofs.Updates.{length-update, update-same, update-at, update-ext, update-more, update-all}
 
 -- the byte stores of code, one after the other
 pub half-stores : (p x : ℕ) (s : List ℕ) → x < 2 ^ 16 → set (set s p (x % 256)) (p + 1) (x / 256) ≡ putHalf p x s

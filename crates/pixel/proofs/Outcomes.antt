@@ -11,17 +11,7 @@ use Rattle.bits.proofs.Laws.{bit-zero, word-ext}
 use Rattle.bits.proofs.Bytes.{each-byte}
 use Rattle.pixel.specs.declared.Write.{Write}
 use Rattle.pixel.specs.Pixel.{matchPasses, magnitudePasses, enabledBy, codeOf, fromConstant, newWord, rasterWord, mergeWord}
-use Rattle.pixel.specs.Registers.{
-  register,
-  planeMask,
-  constantSource,
-  matchMask,
-  magnitudeMask,
-  ropControl,
-  compareControl,
-  writeAddressControl,
-  freshRegisters,
-}
+use Rattle.pixel.specs.Registers.{register, planeMask, constantSource, matchMask, magnitudeMask, ropControl, compareControl, writeAddressControl, freshRegisters}
 use Rattle.pixel.specs.Writes.{used, intoSlot, intoWord, passesMatch, passesMagnitude, passOut, enabled, hits, taken, result, newByte, outcomeOf}
 use Rattle.pixel.proofs.Functions.{gc}
 use Rattle.pixel.proofs.Uses.{bit-raster, bit-new, merge-outside, byte-merge}

@@ -7,17 +7,7 @@ use Rattle.bits.specs.Bits.{bit, byte, mergeByte}
 use Rattle.pixel.specs.declared.Write.{Write}
 use Rattle.pixel.specs.declared.Outcome.{Outcome}
 use Rattle.pixel.specs.Pixel.{matchPasses, magnitudePasses, enabledBy, newWord, rasterWord, mergeWord}
-use Rattle.pixel.specs.Registers.{
-  freshRegisters,
-  register,
-  planeMask,
-  constantSource,
-  matchMask,
-  magnitudeMask,
-  ropControl,
-  compareControl,
-  writeAddressControl,
-}
+use Rattle.pixel.specs.Registers.{freshRegisters, register, planeMask, constantSource, matchMask, magnitudeMask, ropControl, compareControl, writeAddressControl}
 
 -- 01, Data write: a stateless write uses fresh values of registers 1, 5, 6, 7
 unfoldable pub used : List ℕ → Write → List ℕ
