@@ -7,10 +7,10 @@ use Prim.Native.Nat.{ℕ, _+_, _*_, _<_, _≤_}
 use native.Mathlib.Omega.{arith}
 use lib.Dec.{eqb, leb, ltb}
 use lib.ListN.{length, length-take, length-drop}
-use borrow.Author.Tests.{ltb-true, leb-true, eqb-true}
+use borrow.Author.Tests.{ltb-true, leb-true, eqb-true, not-false}
 use Rattle.layout.specs.Numbers.{first, pagesFit}
 use Rattle.layout.specs.Memory.{size, inBank, place, onLine, lineStart, scanLine, lineNumber, lineGiven}
-use Rattle.layout.proofs.Numbers.{none-applies, not-not, and-left, and-right, given-done, given-refused}
+use Rattle.layout.proofs.Numbers.{none-applies, and-left, and-right, given-done, given-refused}
 use Rattle.layout.proofs.Places.{place-lt}
 
 pub on-line-lt : (line column : ℕ) → line < 16 → column < 80 → onLine line column < 1280
@@ -37,11 +37,11 @@ module _ (P len bank page line : ℕ) where
       let one = none-applies 0 _ _ e in
       let two = none-applies 1 _ _ (one .1) in
       let four = none-applies 3 _ _ (two .1) in
-      let inside = not-not _ (four .0) in
+      let inside = not-false _ (four .0) in
       let first-two = and-left (ltb bank 4 && ltb page P) (ltb line 16) inside in
       record {
-        pages = leb-true P 257 (and-right (leb 1 P) (leb P 257) (not-not _ (one .0)));
-        long = eqb-true len (size P) (not-not _ (two .0));
+        pages = leb-true P 257 (and-right (leb 1 P) (leb P 257) (not-false _ (one .0)));
+        long = eqb-true len (size P) (not-false _ (two .0));
         bank-lt = ltb-true bank 4 (and-left (ltb bank 4) (ltb page P) first-two);
         page-lt = ltb-true page P (and-right (ltb bank 4) (ltb page P) first-two);
         line-lt = ltb-true line 16 (and-right (ltb bank 4 && ltb page P) (ltb line 16) inside);

@@ -31,7 +31,7 @@ columnNumber x = first ((8, not (ltb x 1280)) ∷ [])
 unfoldable pub columnGiven : ℕ → ℕ
 columnGiven x = whenDone (columnNumber x) (columnEntry x) 0
 
--- ---- the answer, whose number is columnNumber and whose entry is columnGiven: found-number and found-entry of proofs/Entries.antt
+-- ---- 01, Expected form: the answer is an enum, whose number is columnNumber and whose entry is columnGiven: found-number and found-entry of proofs/Entries.antt
 
 unfoldable pub columnFound : ℕ → Column
 columnFound x = cond (ltb x 1280) (Entry (columnEntry x)) OffScreen
@@ -44,7 +44,7 @@ abbrev pub foundEntry : Column → ℕ
 foundEntry (Entry entry) = entry
 foundEntry OffScreen = 0
 
--- ---- the table in a caller's buffer, for programs that index it: 1,280 entries of 16 bits, the lower byte first
+-- ---- 01, Memory: the C drawing program indexes columns: the table in its own buffer, 1,280 entries of 16 bits, the lower byte first
 
 -- byte j of the buffer: of entry j / 2, its byte j % 2
 unfoldable pub columnByte : ℕ → ℕ
