@@ -1,6 +1,6 @@
 -- What the tests of a well formed state come to, as code makes them. Assumes nothing.
-use mathlib.Core.Path.{_≡_, refl, ap, _∙_}
-use mathlib.Core.Bool.{Bool, true, false, _&&_, _||_}
+use mathlib.Core.Path.{_≡_, refl, sym, ap, _∙_}
+use mathlib.Core.Bool.{true, _&&_, _||_, or-true, or-false}
 use mathlib.Core.List.{List}
 use Prim.Native.Nat.{ℕ, _+_, _%_, _^_, _<_}
 use native.Mathlib.Decide.{ℕ-discrete}
@@ -11,13 +11,13 @@ use lib.Dec.{eqb, leb, ltb}
 use lib.ListN.{getD}
 use borrow.Author.Tests.{eq-eqb, ne-eqb, le-leb}
 use Rattle.bits.specs.Bits.{every, within}
-use Rattle.layout.specs.Numbers.{first, pagesFit}
+use Rattle.layout.specs.Numbers.{first}
 use Rattle.layout.specs.Memory.{lineNumber}
-use Rattle.layout.proofs.Numbers.{and-left}
 use Rattle.layout.proofs.Lines.{line-number-formed}
 use Rattle.chip.specs.declared.Control.{Control}
-use Rattle.chip.specs.State.{closed, openPage, pageFits, storable, wellFormed}
+use Rattle.chip.specs.State.{closed, pageFits, storable, wellFormed}
 use Rattle.chip.specs.Refusals.{scanLineNumber}
+use Rattle.chip.proofs.Accepted.{formed}
 
 -- ---- an open page
 
@@ -28,19 +28,11 @@ page-test P page h = go (ℕ-discrete page 65535) (decided P page)
     decided : (P page : ℕ) → leb (page + 1) P ≡ ltb page P
     decided P page = ap (λ (n : ℕ). leb n P) (omega arith)
 
-    or-true : (b : Bool) → true ≡ (b || true)
-    or-true true = refl
-    or-true false = refl
-
-    or-false : (b : Bool) → b ≡ (b || false)
-    or-false true = refl
-    or-false false = refl
-
     go : Dec (page ≡ 65535) → leb (page + 1) P ≡ ltb page P → leb ((page + 1) % 2 ^ 16) P ≡ (ltb page P || eqb page 65535)
-    go (yes e) q = rw (e, eq-eqb 65535 65535 refl) (le-leb 0 P (omega arith) ∙ or-true (ltb 65535 P))
+    go (yes e) q = rw (e, eq-eqb 65535 65535 refl) (le-leb 0 P (omega arith) ∙ sym (or-true (ltb 65535 P)))
     go (no f) q =
         let small : (page + 1) % 2 ^ 16 ≡ page + 1 = mod-eq-of-lt (omega arith) in
-        rw (small, q, ne-eqb page 65535 f) (or-false (ltb page P))
+        rw (small, q, ne-eqb page 65535 f) (sym (or-false (ltb page P)))
 
 -- ---- registers 5 to 7 alone can hold a bit that is not allowed
 
@@ -53,16 +45,8 @@ pub register-test : (l : List ℕ) → ((n : ℕ) → getD l n 0 < 2 ^ 32) → e
 unfolding every storable
 register-test l fit = rw (any-bits (getD l 0 0) (fit 0), any-bits (getD l 1 0) (fit 1), any-bits (getD l 2 0) (fit 2), any-bits (getD l 3 0) (fit 3))
 
--- ---- a scan line of a well formed state
+-- ---- a scan line of a well formed state is refused by layout's numbers
 
-formed-pages : (c : Control) → wellFormed c ≡ true → pagesFit (c .pages) ≡ true
-unfolding wellFormed
-formed-pages c well =
-    let paged = every 4 (λ bank. pageFits (c .pages) (openPage (c .banks) bank)) in
-    let bitted = every 7 (λ r. within (getD (c .registers) r 0) (getD storable r 0)) in
-    and-left (pagesFit (c .pages)) paged (and-left (pagesFit (c .pages) && paged) bitted well)
-
--- it is refused by layout's numbers
 pub line-told : (c : Control) (len bank page line : ℕ) → wellFormed c ≡ true → lineNumber (c .pages) len bank page line ≡ scanLineNumber c len bank page line
 unfolding scanLineNumber first
-line-told c len bank page line well = rw well (line-number-formed (c .pages) len bank page line (formed-pages c well))
+line-told c len bank page line well = rw well (line-number-formed (c .pages) len bank page line (formed c well .0))

@@ -17,7 +17,7 @@ use Rattle.chip.specs.Operations.{operation}
 use Rattle.chip.specs.Steps.{counted, control-after, pixels-after, memory-after}
 use Rattle.chip.specs.Refusals.{number, callTests}
 use Rattle.chip.specs.Calls.{readIn}
-use Rattle.chip.proofs.Accepted.{Accepted, accepted}
+use Rattle.chip.proofs.Accepted.{accepted}
 use Rattle.chip.proofs.Stays.{stays-well-formed}
 use Rattle.picture.specs.Book.{Book, NoneWaits, note}
 use Rattle.picture.specs.Flat.{Flat, flatStep}

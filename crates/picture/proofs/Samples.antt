@@ -1,10 +1,9 @@
 -- Document 01's listing and a longer list keep to demand 3's premises over any memory and end with no bytes waiting: the theorem is not empty.
 -- A line a call: that it is done, or refused, and what the premises ask of it. Assumes nothing.
 use mathlib.Core.Path.{_≡_, refl}
-use mathlib.Core.Logic.{_≢_}
-use mathlib.Core.Bool.{true, false, false≢true}
+use mathlib.Core.Bool.{true}
 use mathlib.Core.List.{List}
-use Prim.Native.Nat.{ℕ, zero, suc, _<_, _≤_}
+use Prim.Native.Nat.{ℕ, _≤_}
 use native.Mathlib.Omega.{arith}
 use lib.Dec.{ltb, lit<}
 use borrow.Author.Tests.{lt-ltb, le-leb}
@@ -21,7 +20,7 @@ use Rattle.chip.specs.Steps.{counted, switched, withRegister, control-after}
 use Rattle.chip.specs.Refusals.{badBits, onOpen, onClosed, operandsFit, callTests}
 use Rattle.chip.specs.Starred.{listing}
 use Rattle.chip.proofs.Stays.{fresh-well-formed}
-use Rattle.picture.specs.Book.{none, at, note, blank}
+use Rattle.picture.specs.Book.{note, blank}
 use Rattle.picture.specs.Flat.{flatFresh}
 use Rattle.picture.specs.Drawing.{start}
 use Rattle.picture.specs.Samples.{SettlesOver, ListingSettles, PanesSettle, panes}

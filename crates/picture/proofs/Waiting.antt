@@ -1,8 +1,8 @@
 -- While bytes wait, memory differs from the flat picture in them alone. Every byte of memory is a byte of some block (`address-onto`); a slot that
 -- stands for the block and has the byte waiting is looked for, and where there is none, nothing waits for the byte. Assumes nothing.
-use mathlib.Core.Path.{_≡_, refl, sym, ap, _∙_}
+use mathlib.Core.Path.{_≡_, refl, sym, _∙_}
 use mathlib.Core.Logic.{_≢_}
-use mathlib.Core.Bool.{Bool, true, false, not, _&&_, false≢true}
+use mathlib.Core.Bool.{Bool, true, false, not, _&&_}
 use mathlib.Core.List.{List}
 use Prim.Native.Nat.{ℕ, _<_}
 use native.Mathlib.Omega.{arith}
@@ -13,10 +13,10 @@ use Rattle.layout.specs.Memory.{size, address}
 use Rattle.layout.proofs.Numbers.{and-left, and-right}
 use Rattle.layout.proofs.Places.{address-inj, address-onto}
 use Rattle.bank.proofs.Updates.{find}
-use Rattle.picture.specs.Book.{Stand, none, at, Book, stands, waiting, Waits}
-use Rattle.picture.specs.Drawing.{start, after, OnlyWaitingDiffer}
+use Rattle.picture.specs.Book.{at, Book, stands, waiting, Waits}
+use Rattle.picture.specs.Drawing.{start, OnlyWaitingDiffer}
 use Rattle.picture.proofs.Holds.{Free, Holds, stands-lt}
-use Rattle.picture.proofs.Agree.{Between, start-holds, run-holds}
+use Rattle.picture.proofs.Agree.{start-holds, run-holds}
 use Rattle.picture.proofs.Kept.{offBlock, on-block}
 
 -- whether a slot stands for the block and has its byte i waiting

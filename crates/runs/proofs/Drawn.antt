@@ -1,9 +1,7 @@
 -- Demand 3 for what `run` leaves: its definitions are the chip's part of demand 3's run. Assumes nothing.
 use mathlib.Core.Path.{_≡_, refl, sym, ap, _∙_}
 use mathlib.Core.List.{List, [], _∷_}
-use Prim.Native.Nat.{ℕ, _+_, _≤_}
-use lib.ListN.{length}
-use Rattle.layout.specs.Memory.{size}
+use Prim.Native.Nat.{ℕ}
 use Rattle.chip.specs.declared.Control.{Control}
 use Rattle.chip.specs.declared.Chip.{Chip}
 use Rattle.chip.specs.declared.Call.{Call}
@@ -13,7 +11,7 @@ use Rattle.chip.specs.Calls.{answeredOf, memoryOf, memoryLeft}
 use Rattle.chip.specs.Starred.{listing}
 use Rattle.picture.specs.Drawing.{World, Seen, seen, start, next, after, chipSeen, Bytes, DrawingAgrees, Settles}
 use Rattle.picture.specs.Samples.{panes, SettlesOver, ListingSettles, PanesSettle}
-use Rattle.picture.proofs.Agree.{Between, start-holds, run-holds, drawing-agrees}
+use Rattle.picture.proofs.Agree.{start-holds, run-holds, drawing-agrees}
 use Rattle.picture.proofs.Samples.{listing-settles, panes-settle}
 use Rattle.runs.specs.Runs.{nextRan, ranFrom, ranOf, memoryAfter}
 use Rattle.runs.specs.Drawn.{seenOf, RunDraws, IsPicture, LeavesPicture, SamplesDrawn}
