@@ -31,18 +31,19 @@ digit-true : (x : Bool) → _≡_ {A = ℕ} 1 (digit x) → x ≡ true
 digit-true true e = refl
 digit-true false e = absurd (omega (arith, e))
 
-module _ (P n plane : ℕ) (tags pixels memory picture : List ℕ) (g : Book) (h : Holds P n plane tags pixels memory picture g) where
-  waits-there : (a : ℕ) → a < size P → getD memory a 0 ≢ getD picture a 0
-      → (slot bank page block i : ℕ) × (stands g slot ≡ at bank page block) × (i < 32) × Waits g slot i × (a ≡ address P bank page block i)
+module _ {P n plane : ℕ} {tags pixels memory picture : List ℕ} {g : Book} (h : Holds P n plane tags pixels memory picture g) where
+  -- a is the address of a byte that waits
+  abbrev Waiting : ℕ → Type 0
+  Waiting a = (slot bank page block i : ℕ) × (stands g slot ≡ at bank page block) × (i < 32) × Waits g slot i × (a ≡ address P bank page block i)
+
+  waits-there : (a : ℕ) → a < size P → getD memory a 0 ≢ getD picture a 0 → Waiting a
   unfolding holdsBack
   waits-there a ha differs = go (address-onto P a ha)
     where
-      go : (b p k i : ℕ) × (b < 4) × (p < P) × (k < 40) × (i < 32) × (address P b p k i ≡ a)
-          → (slot bank page block i : ℕ) × (stands g slot ≡ at bank page block) × (i < 32) × Waits g slot i × (a ≡ address P bank page block i)
+      go : (b p k i : ℕ) × (b < 4) × (p < P) × (k < 40) × (i < 32) × (address P b p k i ≡ a) → Waiting a
       go (b, p, k, i, hb, hp, hk, hi, e) = look (find n (λ s. digit (holdsBack g b p k i s)) 1)
         where
-          look : Dec ((s : ℕ) × (s < n) × (_≡_ {A = ℕ} 1 (digit (holdsBack g b p k i s))))
-              → (slot bank page block i : ℕ) × (stands g slot ≡ at bank page block) × (i < 32) × Waits g slot i × (a ≡ address P bank page block i)
+          look : Dec ((s : ℕ) × (s < n) × (_≡_ {A = ℕ} 1 (digit (holdsBack g b p k i s)))) → Waiting a
           look (yes (s, hs, q)) =
               let t = digit-true (holdsBack g b p k i s) q in
               let there = not (offBlock b p k (stands g s)) in
@@ -54,10 +55,10 @@ module _ (P n plane : ℕ) (tags pixels memory picture : List ℕ) (g : Book) (h
                   let u = h .inside s b' p' k' e' in
                   let r = address-inj P b p k i b' p' k' i' hp hk hi (u .1) (u .2) hi' (e ∙ q) in
                   let t = holds-back g b p k i s (rw (r .0, r .1, r .2) e') (rw (r .3) w) in
-                  f (s, stands-lt P n plane tags pixels memory picture g h s b' p' k' e', rw t)
+                  f (s, stands-lt h s b' p' k' e', rw t)
 
 pub only-waiting-differ : OnlyWaitingDiffer
 unfolding OnlyWaitingDiffer
 only-waiting-differ n P memory calls fit q fair a ha differs =
     let b = run-holds n P calls (start n P memory) (start-holds n P memory fit q) fair in
-    rw (b .pages) at (waits-there _ n _ _ _ _ _ _ (b .holds) a (rw (b .pages) ha) differs)
+    rw (b .pages) at (waits-there (b .holds) a (rw (b .pages) ha) differs)
