@@ -4,6 +4,7 @@ use super::Refusal;
 ghost use mathlib.Core.Path.{_≡_};
 ghost use Rattle.chip.specs.Answers.{refusalNumber, numberOf, valueOf, passOf, writtenOf};
 
+// The number of a refusal.
 pub fn refusal_number(refusal: Refusal) -> u32
     ensures { λ r. ⌜ r ≡ refusalNumber refusal ⌝ }
 {
@@ -33,7 +34,7 @@ pub fn number(answer: Answer) -> u32
     }
 }
 
-// The value of an answer; it, pass and written are 0 where the call is refused.
+// The value of an answer: 0 where the call is refused.
 pub fn value(answer: Answer) -> u32
     ensures { λ r. ⌜ r ≡ valueOf answer ⌝ }
 {
@@ -47,6 +48,7 @@ pub fn value(answer: Answer) -> u32
     }
 }
 
+// 1 where the call passes, 0 where it does not or is refused.
 pub fn pass(answer: Answer) -> u32
     ensures { λ r. ⌜ r ≡ passOf answer ⌝ }
 {
@@ -60,6 +62,7 @@ pub fn pass(answer: Answer) -> u32
     }
 }
 
+// 1 where the call is written, 0 where it is not or is refused.
 pub fn written(answer: Answer) -> u32
     ensures { λ r. ⌜ r ≡ writtenOf answer ⌝ }
 {

@@ -12,6 +12,7 @@ pub fn page_fits(pages: u16, page: u16) -> bool
     std::num::wrapping_add_u16(page, 1) <= pages
 }
 
+// Whether the page open in each bank fits.
 fn banks_fit(pages: u16, banks: [u16; 4]) -> bool
     ensures { λ r. ⌜ r ≡ every 4 (λ bank. pageFits pages (openPage banks bank)) ⌝ }
 {
@@ -21,7 +22,7 @@ fn banks_fit(pages: u16, banks: [u16; 4]) -> bool
         & page_fits(pages, banks[3])
 }
 
-// Registers 1 to 4 may hold any bits.
+// Whether registers hold allowed bits: 1 to 4 may hold any.
 fn registers_fit(registers: [u32; 7]) -> bool
     ensures { λ r. ⌜ r ≡ every 7 (λ n. within (getD registers n 0) (getD storable n 0)) ⌝ }
 {
@@ -30,6 +31,7 @@ fn registers_fit(registers: [u32; 7]) -> bool
         & bits::within(registers[6], 1)
 }
 
+// Whether a state is well formed: P fits, and so do open pages and registers.
 pub fn well_formed(control: Control) -> bool
     ensures { λ r. ⌜ r ≡ wellFormed control ⌝ }
 {

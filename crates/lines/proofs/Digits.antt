@@ -15,11 +15,11 @@ use Rattle.lines.specs.Printing.{digitsIn, digitsOf, printedNumber, prin
 
 -- ---- one digit, or more
 
-pub digits-one : (k x : ℕ) → x < 10 → digitsIn (suc k) x ≡ (48 + x) ∷ []
+digits-one : (k x : ℕ) → x < 10 → digitsIn (suc k) x ≡ (48 + x) ∷ []
 unfolding digitsIn
 digits-one k x h = rw (lt-ltb x 10 h)
 
-pub digits-more : (k x : ℕ) → 10 ≤ x → digitsIn (suc k) x ≡ digitsIn k (x / 10) ++ ((48 + x % 10) ∷ [])
+digits-more : (k x : ℕ) → 10 ≤ x → digitsIn (suc k) x ≡ digitsIn k (x / 10) ++ ((48 + x % 10) ∷ [])
 unfolding digitsIn
 digits-more k x h = rw (le-ltb x 10 h)
 

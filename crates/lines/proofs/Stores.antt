@@ -9,12 +9,13 @@ use lib.Seq.{sets}
 use Rattle.lines.specs.Printing.{Stored}
 
 -- the second goes on where the first ends
-pub sets-append : (l : List ℕ) (at : ℕ) (a b : List ℕ) → sets l at (a ++ b) ≡ sets (sets l at a) (at + length a) b
+sets-append : (l : List ℕ) (at : ℕ) (a b : List ℕ) → sets l at (a ++ b) ≡ sets (sets l at a) (at + length a) b
 sets-append l at [] b = rw add-zero
 sets-append l at (x ∷ a) b =
     let next : suc at + length a ≡ at + suc (length a) = omega arith in
     sets-append (set l at x) (suc at) a b ∙ ap (λ (n : ℕ). sets (sets (set l at x) (suc at) a) n b) next
 
+-- so two stores, one after the other, are one
 pub stored-both : {l m n : List ℕ} {at next end : ℕ} {a b : List ℕ} → Stored l at a m next → Stored m next b n end → Stored l at (a ++ b) n end
 stored-both {l} {m} {n} {at} {next} {end} {a} {b} first second = record {
   place = omega (arith, length-append a b);

@@ -44,6 +44,7 @@ afterDigit r x = cond (ltb (r .digits) 10 && ltb (r .value * 10 + (x - 48)) (2 ^
 unfoldable pub afterByte : Reader → ℕ → Reader
 afterByte r x = cond (eqb x 32) (afterSpace r) (cond (isDigit x) (afterDigit r x) spoilt)
 
+-- more bytes of a line
 unfoldable pub afterBytes : Reader → List ℕ → Reader
 afterBytes r [] = r
 afterBytes r (x ∷ xs) = afterBytes (afterByte r x) xs

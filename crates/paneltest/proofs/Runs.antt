@@ -23,7 +23,7 @@ use Rattle.paneltest.specs.Session.{Run, joined, lineRun, byteRun, close
 
 -- ---- what functions leave, one after another
 
-pub leaves-joined : {part next : Run} {r s : Ran} {m n : List ℕ} {at : ℕ} {before between after : List ℕ}
+leaves-joined : {part next : Run} {r s : Ran} {m n : List ℕ} {at : ℕ} {before between after : List ℕ}
     → Leaves part r m at before between → Leaves next s n (r .at) between after → Leaves (joined part next) s n at before after
 leaves-joined first second = record { session = second .session; memory-left = second .memory-left; output = stored-both (first .output) (second .output) }
 
@@ -75,7 +75,7 @@ ran-append run [] b = refl
 ran-append run (x ∷ a) b = ran-append (joined run (byteRun (run .session) (run .memory) x)) a b
 
 -- a byte more
-pub ran-more : (run : Run) (input : List ℕ) (i : ℕ) → i < length input
+ran-more : (run : Run) (input : List ℕ) (i : ℕ) → i < length input
     → ran run (take (i + 1) input)
     ≡ joined (ran run (take i input)) (byteRun (ran run (take i input) .session) (ran run (take i input) .memory) (getD input i 0))
 unfolding ran

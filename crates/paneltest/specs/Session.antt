@@ -1,4 +1,4 @@
--- 01, The small program: its run over the input, a byte at a time. proofs/Runs.antt shows that it prints what specs of crate lines say. Assumes nothing.
+-- 01, The small program: its run over the input, a byte at a time. proofs/Prints.antt shows that it prints what crate lines says of the whole input. Assumes nothing.
 use mathlib.Core.Path.{_≡_}
 use mathlib.Core.Bool.{cond}
 use mathlib.Core.List.{List, [], _∷_, _++_}
@@ -52,6 +52,7 @@ byteRun session memory x = cond (eqb x 10)
     (lineRun (ended (session .reader)) (session .chip) memory)
     (startRun (record { chip = session .chip; reader = afterByte (session .reader) x }) memory)
 
+-- a piece of the input more
 unfoldable pub ran : Run → List ℕ → Run
 ran run [] = run
 ran run (x ∷ xs) = ran (joined run (byteRun (run .session) (run .memory) x)) xs

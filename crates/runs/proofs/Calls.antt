@@ -23,7 +23,7 @@ one : (l : List ℕ) (i j : ℕ) → j ≡ i + 1 → i < length l → drop i l �
 one l i j e h = rw (e, add-one, drop-cons l i 0)
 
 -- from a place with six numbers on: a call, and the calls after it
-pub calls-more : (l : List ℕ) (at : ℕ) → at + 6 ≤ length l → callsIn (drop at l) ≡ callAt l at ∷ callsIn (drop (at + 6) l)
+calls-more : (l : List ℕ) (at : ℕ) → at + 6 ≤ length l → callsIn (drop at l) ≡ callAt l at ∷ callsIn (drop (at + 6) l)
 unfolding callsIn
 calls-more l at h = rw (
   one l at (at + 1) refl (omega arith),

@@ -42,6 +42,7 @@ nextRan ran memory x = record {
   refused = ran .refused + refusals (answeredOf (ran .chip) memory x .answer);
 }
 
+-- a list of calls more
 unfoldable pub ranFrom : Ran → List ℕ → List Call → Ran
 ranFrom ran memory [] = ran
 ranFrom ran memory (x ∷ xs) = ranFrom (nextRan ran memory x) (memoryOf (ran .chip) memory x) xs

@@ -1,9 +1,9 @@
 -- `chip::form::page_fits` meets its contract: the sum wraps to 0 at 65535 alone. Assumes nothing.
-use Rattle.chip.proofs.Forms.{page-test}
-use lib.Dec.{leb}
-use Prim.Native.Nat.{ℕ}
 use mathlib.Core.Path.{ap, _∙_}
+use Prim.Native.Nat.{ℕ}
+use lib.Dec.{leb}
 use borrow.Author.Needs.{needs}
+use Rattle.chip.proofs.Forms.{page-test}
 use Rattle.chip.proofs.form.page_fits.Statement.{statement}
 use Rattle.chip.proofs.form.page_fits.Tie as tie
 

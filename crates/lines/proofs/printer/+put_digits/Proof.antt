@@ -46,9 +46,6 @@ put-byte-requires-2 t c κs =
     let x = c .before .before .before .before .before .before .before .args .x in
     omega (arith, one-longer x (omega arith) (omega arith))
 
-same-length-2 : (t : ℕ) → put-digits-lts.Need-same-length-2 (put-byte-reads.Asked, put-byte-reads.Learnt, below t, put-digits.Post) (given t) put-digits.Post
-same-length-2 t c = search needs
-
 returns-2 : (t : ℕ) → put-digits-lts.Need-returns-2 (put-byte-reads.Asked, put-byte-reads.Learnt, below t, put-digits.Post) (given t) put-digits.Post
 returns-2 t c =
     let a = c .before .before .before .before .before .before .before .before .before .before .args in
@@ -58,4 +55,4 @@ returns-2 t c =
 pub +put-digits-spec : {M : Type 1} → statement M
 +put-digits-spec = close μ-put-digits (λ t.
     put-digits-lts.spec (put-byte-reads.Asked, put-byte-reads.Learnt, below t, put-digits.Post) (given t) put-digits.Post (λ c. search needs) (λ c. search needs)
-    (put-byte-requires t) (λ c. search needs) (returns t) (put-digits-requires t) (put-byte-requires-2 t) (same-length-2 t) (returns-2 t))
+    (put-byte-requires t) (λ c. search needs) (returns t) (put-digits-requires t) (put-byte-requires-2 t) (λ c. search needs) (returns-2 t))
