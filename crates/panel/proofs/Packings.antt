@@ -1,64 +1,57 @@
 -- The 64-bit number of each answer, from its parts. Assumes nothing.
-use mathlib.Core.Path.{_≡_, refl, sym, ap, _∙_}
+use mathlib.Core.Path.{_≡_}
 use mathlib.Core.Bool.{Bool, true, false, not, cond, _&&_}
-use mathlib.Core.List.{List, [], _∷_}
-use Prim.Native.Nat.{ℕ, zero, suc, _+_, _*_, _^_, _<_, _≤_}
+use mathlib.Core.List.{List}
+use Prim.Native.Nat.{ℕ, _<_, _≤_}
+use native.Mathlib.Omega.{arith}
 use lib.Dec.{lit<, lit≤, eqb, ltb}
 use lib.ListN.{length}
 use Rattle.bits.specs.Bits.{digit}
-use Rattle.layout.specs.declared.Point.{Point}
 use Rattle.layout.specs.declared.Pointed.{Pointed}
 use Rattle.layout.specs.declared.Column.{Column}
-use Rattle.layout.specs.Numbers.{first, whenDone, pagesFit}
-use Rattle.layout.specs.Memory.{lineNumber, lineStart, size}
-use Rattle.layout.specs.Screen.{pointOf, pointNumber, pointedOf, pointedNumber, pointedAt}
-use Rattle.layout.specs.Columns.{columnGiven, columnNumber, columnFound, foundNumber, foundEntry}
+use Rattle.layout.specs.declared.Filled.{Filled}
+use Rattle.layout.specs.Numbers.{first, pagesFit}
+use Rattle.layout.specs.Memory.{lineNumber, size}
+use Rattle.layout.specs.Screen.{pointedOf, pointedNumber, pointedAt}
+use Rattle.layout.specs.Columns.{columnFound, foundNumber, foundEntry, columnsNumber, filledOf, filledNumber}
 use Rattle.layout.proofs.Points.{pointed-number, pointed-at}
-use Rattle.layout.proofs.Entries.{found-number, found-entry}
+use Rattle.layout.proofs.Entries.{found-number, found-entry, filled-number}
 use Rattle.chip.specs.declared.Answer.{Answer}
-use Rattle.chip.specs.declared.Answer.the-variants.{Done, Refused}
+use Rattle.chip.specs.declared.Answer.the-variants.{Refused}
 use Rattle.chip.specs.declared.Refusal.{Refusal}
-use Rattle.chip.specs.declared.Refusal.the-variants.{
-  IllFormed,
-  MemoryLength,
-  UnknownOperation,
-  OperandOutside,
-  BitNotAllowed,
-  BankOpen,
-  BankClosed,
-  OffScreen,
-}
-use Rattle.chip.specs.Answers.{refusalNumber, numberOf, packed, packedOf}
-use Rattle.chip.specs.State.{wellFormed}
-use Rattle.chip.specs.Refusals.{scanLineNumber}
+use Rattle.chip.specs.declared.Refusal.the-variants.{IllFormed}
+use Rattle.chip.specs.declared.Call.{Call}
+use Rattle.chip.specs.State.{slots}
+use Rattle.chip.specs.Answers.{numberOf, packed, packedOf}
+use Rattle.chip.specs.Calls.{answeredOf, answeredWith}
+use Rattle.chip.proofs.Numbers as numbers
+use Rattle.chip.proofs.Forms as forms
 use Rattle.stored.specs.Block.{decodeControl, decode, wellFormedBlock}
-use Rattle.stored.specs.Doors.{blockLineNumber}
-use borrow.Author.Tests.{le-leb}
-use Rattle.steps.proofs.Changes.{well-control, pages-in}
-use Rattle.layout.proofs.Lines.{line-number-formed}
-use Rattle.panel.specs.Packs.{pointPacked, pointGiven, columnPacked}
+use Rattle.stored.specs.Doors.{blockAnswer, blockLineNumber}
+use Rattle.steps.proofs.Changes.{well-control}
+use Rattle.panel.specs.Packs.{numbered, pointPacked, pointGiven, columnPacked}
 
+-- ---- a call
+
+-- pass and written are 0 or 1
 pub digit-le : (b : Bool) → digit b ≤ 1
 digit-le true = lit≤ tt
 digit-le false = lit≤ tt
 
-refusal-lt : (r : Refusal) → refusalNumber r < 256
-refusal-lt IllFormed = lit< tt
-refusal-lt MemoryLength = lit< tt
-refusal-lt UnknownOperation = lit< tt
-refusal-lt OperandOutside = lit< tt
-refusal-lt BitNotAllowed = lit< tt
-refusal-lt BankOpen = lit< tt
-refusal-lt BankClosed = lit< tt
-refusal-lt OffScreen = lit< tt
-
-pub number-lt : (a : Answer) → numberOf a < 256
-number-lt (Done value pass written) = lit< tt
-number-lt (Refused r) = refusal-lt r
+-- its number is 0 to 7
+pub number-lt : (s memory : List ℕ) (x : Call) → numberOf (blockAnswer s memory x) < 256
+unfolding blockAnswer answeredOf answeredWith decode
+number-lt s memory x = go (wellFormedBlock s)
+  where
+    go : (well : Bool) → numberOf (cond well (answeredOf (decode s) memory x .answer) (Refused IllFormed)) < 256
+    go true = rw (numbers.numbers-given slots (decodeControl s) (decode s .pixels) memory x) (omega (arith, numbers.number-lt slots (decodeControl s) (length memory) x))
+    go false = lit< tt
 
 pub refused-packed : (a : Answer) (r : Refusal) → a ≡ Refused r → packed 0 0 0 (numberOf a) ≡ packedOf a
 unfolding packedOf
 refused-packed a r e = rw e
+
+-- ---- a point, a column, the table: an enum's number and values are those that the definitions give
 
 pub point-told : (P x y : ℕ) (a : Pointed) → a ≡ pointedOf P x y → packed (pointPacked (pointedAt a)) 0 0 (pointedNumber a) ≡ pointGiven P x y
 unfolding pointGiven
@@ -68,17 +61,20 @@ pub column-told : (x : ℕ) (a : Column) → a ≡ columnFound x → packed (fou
 unfolding columnPacked
 column-told x a e = rw (e, found-entry x, found-number x)
 
-pages-true : (s : List ℕ) → wellFormedBlock s ≡ true → pagesFit (decodeControl s .pages) ≡ true
-unfolding pagesFit
-pages-true s well =
-    let fit = pages-in s well in
-    rw (le-leb 1 (decodeControl s .pages) (fit .0), le-leb (decodeControl s .pages) 257 (fit .1))
+pub table-told : (len : ℕ) (a : Filled) → a ≡ filledOf len → packed 0 0 0 (filledNumber a) ≡ numbered (columnsNumber len)
+unfolding numbered
+table-told len a e = rw (e, filled-number len)
 
--- of a well formed block a scan line is refused by layout's numbers
-pub line-told : (s memory : List ℕ) (bank page line : ℕ) → wellFormedBlock s ≡ true
-    → lineNumber (decodeControl s .pages) (length memory) bank page line ≡ blockLineNumber s memory bank page line
-unfolding blockLineNumber scanLineNumber first decode
-line-told s memory bank page line well = rw (well, well-control s well) (line-number-formed (decodeControl s .pages) (length memory) bank page line (pages-true s well))
+-- ---- a scan line
+
+-- of a well formed block it is refused by layout's numbers
+pub line-told : (s memory : List ℕ) (bank page line : ℕ) {P n : ℕ} → wellFormedBlock s ≡ true
+    → P ≡ decodeControl s .pages
+    → n ≡ lineNumber P (length memory) bank page line
+    → n ≡ blockLineNumber s memory bank page line
+unfolding blockLineNumber decode
+line-told s memory bank page line well p e =
+    rw (e, p, well) (forms.line-told (decodeControl s) (length memory) bank page line (well-control s well))
 
 -- its number is 0, 1, 2 or 4
 pub line-lt : (P len bank page line : ℕ) → lineNumber P len bank page line < 256

@@ -1,7 +1,6 @@
 -- 01, Numbers: the C door gives one 64-bit number. What each of its functions gives that the crates below do not say. Assumes nothing.
 use mathlib.Core.List.{List}
 use Prim.Native.Nat.{ℕ, _+_, _*_, _^_}
-use lib.ListN.{length}
 use Rattle.layout.specs.declared.Point.{Point}
 use Rattle.layout.specs.Numbers.{whenDone}
 use Rattle.layout.specs.Memory.{lineStart}

@@ -2,30 +2,26 @@
 use Rattle.stored.specs.Doors.{callNumber}
 use Rattle.chip.specs.Answers.{packed, packedOf}
 use Rattle.panel.proofs.Packings.{number-lt, refused-packed}
-use Prim.Native.Nat.{ℕ, _+_, _*_, _^_, _<_, _≤_}
-use mathlib.Core.Path.{_≡_, refl, sym, ap, _∙_}
+use Prim.Native.Nat.{ℕ}
+use mathlib.Core.Path.{sym, ap, _∙_}
 use borrow.Author.Needs.{needs}
 use Rattle.panel.proofs.panel_call.Statement.{statement}
 use Rattle.panel.proofs.panel_call.Tie as tie
 
 pack-requires : tie.Need-pack-requires
-pack-requires c κs = rw (c .number .ensures) (number-lt (c .before .before .before .before .before .before .before .act .result))
+pack-requires c κs = rw (c .number .ensures, c .before .before .before .before .before .before .before .act .ensures .0) (number-lt _ _ _)
 
 returns : tie.Need-returns
 unfolding callNumber
-returns c = (
-  c .pack .ensures ∙ ap (λ (n : ℕ). packed 0 0 0 n) (c .before .number .ensures) ∙ refused-packed (c .before .before .before .before .before .before .before .before .act .result) _ (c .before .before .enum-told .given .1) ∙ ap packedOf (c .before .before .before .before .before .before .before .before .act .ensures .0),
-  c .before .before .before .before .before .before .before .before .act .ensures .1,
-  c .before .before .before .before .before .before .before .before .act .ensures .2,
-)
+returns c =
+    let act = c .before .before .before .before .before .before .before .before .act in
+    (c .pack .ensures ∙ ap (λ (n : ℕ). packed 0 0 0 n) (c .before .number .ensures) ∙ refused-packed (act .result) _ (c .before .before .enum-told .given .1) ∙ ap packedOf (act .ensures .0), act .ensures .1, act .ensures .2)
 
 returns-2 : tie.Need-returns-2
 unfolding callNumber
-returns-2 c = (
-  c .pack-done .ensures ∙ sym (ap packedOf (c .before .before .answer .given .1)) ∙ ap packedOf (c .before .before .before .before .before .before .before .before .act .ensures .0),
-  c .before .before .before .before .before .before .before .before .act .ensures .1,
-  c .before .before .before .before .before .before .before .before .act .ensures .2,
-)
+returns-2 c =
+    let act = c .before .before .before .before .before .before .before .before .act in
+    (c .pack-done .ensures ∙ sym (ap packedOf (c .before .before .answer .given .1)) ∙ ap packedOf (act .ensures .0), act .ensures .1, act .ensures .2)
 
 pub panel-call-spec : {M : Type 1} → statement M
 panel-call-spec = tie.close (tie.spec (λ c κs. search needs) (λ c. search needs) (λ c. search needs) (λ c κs. search needs) pack-requires (λ c. search needs) (λ c. search needs) returns (λ c κs. search needs) (λ c. search needs) (λ c. search needs) returns-2)

@@ -1,21 +1,16 @@
 -- `panel::panel_fresh` meets its contract. Assumes nothing.
+use mathlib.Core.Path.{ap, _∙_}
 use lib.Dec.{leb}
-use borrow.Author.Tests.{leb-true}
-use Rattle.layout.proofs.Numbers.{and-right}
-use Rattle.panel.specs.Packs.{numbered, freshGiven}
-use Rattle.stored.specs.Doors.{freshBlockNumber, freshBlock}
-use Rattle.chip.specs.declared.Chip.{Chip}
-use Rattle.stored.specs.Block.{encode}
-use Rattle.stored.proofs.Forms.{passed, failed}
-use Rattle.layout.specs.Numbers.{first, pagesFit}
-use borrow.Author.Tests.{eq-eqb, ne-eqb}
 use lib.ListN.{length}
-use denote.Ref.{now}
-use mathlib.Core.Bool.{Bool, true, false}
 use native.Mathlib.Omega.{arith}
-use Prim.Native.Nat.{ℕ, _+_, _*_, _^_, _<_, _≤_}
-use mathlib.Core.Path.{_≡_, refl, sym, ap, _∙_}
+use denote.Ref.{now}
+use borrow.Author.Tests.{eq-eqb, ne-eqb, leb-true}
 use borrow.Author.Needs.{needs}
+use Rattle.layout.specs.Numbers.{first, pagesFit}
+use Rattle.layout.proofs.Numbers.{and-right, test-holds, test-fails}
+use Rattle.stored.specs.Block.{encode}
+use Rattle.stored.specs.Doors.{freshBlockNumber, freshBlock}
+use Rattle.panel.specs.Packs.{numbered, freshGiven}
 use Rattle.panel.proofs.panel_fresh.Statement.{statement}
 use Rattle.panel.proofs.panel_fresh.Tie as tie
 
@@ -29,20 +24,20 @@ returns-2 : tie.Need-returns-2
 unfolding freshGiven numbered freshBlock freshBlockNumber first
 returns-2 c =
     let long = eq-eqb (length (now (c .before .before .before .before .before .args .state))) 348 (c .before .before .before .if1 .left) in
-    let outside = failed (c .before .before .pages-fit .ensures) (c .before .if2 .taken) in
+    let outside = test-fails (c .before .before .pages-fit .ensures) (c .before .if2 .taken) in
     (c .pack2 .ensures ∙ rw (long, outside), rw (long, outside))
 
 cast-fresh : tie.Need-cast-fresh
 unfolding pagesFit
 cast-fresh c =
-    let inside = passed (c .before .before .pages-fit .ensures) (c .before .if2 .left) in
-    omega (arith, leb-true (c .before .before .before .before .before .args .pages) 257 (and-right (leb 1 (c .before .before .before .before .before .args .pages)) (leb (c .before .before .before .before .before .args .pages) 257) inside))
+    let P = c .before .before .before .before .before .args .pages in
+    omega (arith, leb-true P 257 (and-right (leb 1 P) (leb P 257) (test-holds (c .before .before .pages-fit .ensures) (c .before .if2 .left))))
 
 returns-3 : tie.Need-returns-3
 unfolding freshGiven numbered freshBlock freshBlockNumber first
 returns-3 c =
     let long = eq-eqb (length (now (c .before .before .before .before .before .before .before .before .before .before .args .state))) 348 (c .before .before .before .before .before .before .before .before .if1 .left) in
-    let inside = passed (c .before .before .before .before .before .before .before .pages-fit .ensures) (c .before .before .before .before .before .before .if2 .left) in
+    let inside = test-holds (c .before .before .before .before .before .before .before .pages-fit .ensures) (c .before .before .before .before .before .before .if2 .left) in
     (c .pack3 .ensures ∙ rw (long, inside), c .before .before .before .store .ensures ∙ rw (long, inside) (ap encode (c .before .before .before .before .fresh .ensures)))
 
 pub panel-fresh-spec : {M : Type 1} → statement M

@@ -3,27 +3,27 @@ use Rattle.panel.proofs.Packings.{point-told}
 use Rattle.panel.specs.Packs.{pointPacked}
 use Rattle.chip.specs.Answers.{packed}
 use Rattle.layout.proofs.Points.{given-inside}
-use Prim.Native.Nat.{ℕ, _+_, _*_, _^_, _<_, _≤_}
-use mathlib.Core.Path.{_≡_, refl, sym, ap, _∙_}
+use Prim.Native.Nat.{ℕ}
+use mathlib.Core.Path.{sym, ap, _∙_}
 use borrow.Author.Needs.{needs}
 use Rattle.panel.proofs.panel_point.Statement.{statement}
 use Rattle.panel.proofs.panel_point.Tie as tie
 
 point-value-requires : tie.Need-point-value-requires
 point-value-requires c κs =
-    let i = given-inside (c .before .before .before .before .args .pages) (c .before .before .before .before .args .x) (c .before .before .before .before .args .y) _ (sym (c .before .before .before .point .ensures) ∙ c .before .found .given .1) in
+    let i = given-inside _ _ _ _ (sym (c .before .before .before .point .ensures) ∙ c .before .found .given .1) in
     (i .bank-lt, i .page-lt, i .line-lt, i .column-lt)
 
 returns : tie.Need-returns
-returns c = c .pack .ensures ∙ ap (λ (v : ℕ). packed v 0 0 0) (c .before .point-value .ensures) ∙ point-told (c .before .before .before .before .before .before .args .pages) (c .before .before .before .before .before .before .args .x) (c .before .before .before .before .before .before .args .y) _ (sym (c .before .before .before .found .given .1) ∙ c .before .before .before .before .before .point .ensures)
+returns c = c .pack .ensures ∙ ap (λ (v : ℕ). packed v 0 0 0) (c .before .point-value .ensures) ∙ point-told _ _ _ _ (sym (c .before .before .before .found .given .1) ∙ c .before .before .before .before .before .point .ensures)
 
 returns-2 : tie.Need-returns-2
 unfolding pointPacked
-returns-2 c = c .pack2 .ensures ∙ point-told (c .before .before .before .before .args .pages) (c .before .before .before .before .args .x) (c .before .before .before .before .args .y) _ (sym (c .before .enum-told .given .1) ∙ c .before .before .before .point .ensures)
+returns-2 c = c .pack2 .ensures ∙ point-told _ _ _ _ (sym (c .before .enum-told .given .1) ∙ c .before .before .before .point .ensures)
 
 returns-3 : tie.Need-returns-3
 unfolding pointPacked
-returns-3 c = c .pack3 .ensures ∙ point-told (c .before .before .before .before .args .pages) (c .before .before .before .before .args .x) (c .before .before .before .before .args .y) _ (sym (c .before .enum-told2 .given .1) ∙ c .before .before .before .point .ensures)
+returns-3 c = c .pack3 .ensures ∙ point-told _ _ _ _ (sym (c .before .enum-told2 .given .1) ∙ c .before .before .before .point .ensures)
 
 pub panel-point-spec : {M : Type 1} → statement M
 panel-point-spec = tie.close (tie.spec (λ c κs. search needs) (λ c. search needs) point-value-requires (λ c κs. search needs) (λ c. search needs) (λ c κs. search needs) (λ c. search needs) (λ c κs. search needs) returns returns-2 returns-3)
