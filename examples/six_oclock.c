@@ -204,19 +204,19 @@ static unsigned long show(const struct surface *s, uint8_t *picture)
     return lines;
 }
 
-static uint8_t *copy_of(const uint8_t *bytes, size_t len)
+static uint8_t *room_for(size_t len)
 {
-    uint8_t *copy = malloc(len);
-    if (copy == NULL) {
-        fprintf(stderr, "no room for a copy\n");
+    uint8_t *bytes = malloc(len);
+    if (bytes == NULL) {
+        fprintf(stderr, "no room for %zu bytes\n", len);
         exit(1);
     }
-    return memcpy(copy, bytes, len);
+    return bytes;
 }
 
 static void save_picture(const struct surface *s, const char *path)
 {
-    uint8_t *picture = copy_of(s->memory, memory_len), colours[256][3];
+    uint8_t *picture = room_for((size_t)PANEL_SCREEN_WIDTH * PANEL_SCREEN_HEIGHT), colours[256][3];
     unsigned long lines = show(s, picture);
     make_colours(colours);
     if (!png_write(path, PANEL_SCREEN_WIDTH, PANEL_SCREEN_HEIGHT, picture, colours)) {
@@ -284,24 +284,25 @@ static void must_be(bool fact, const char *what)
 /* After the mark: both slots go back. Not a byte of memory may change. */
 static void write_stale_back(struct surface *s, struct place p)
 {
-    uint8_t *before = copy_of(s->memory, memory_len);
+    uint8_t *before = memcpy(room_for(memory_len), s->memory, memory_len);
     unsigned marks = marked_in(s, p);
     must_be(marks > 0, "the operator's ring crosses the block");
     surface_planes(s, SERVER_PLANES);
     uint64_t refused =
         panel_call(s->state, sizeof s->state, s->memory, memory_len, PANEL_MASKED_WRITE, p.bank, p.block, STALE_WRITTEN, 0, 0);
-    must_be(panel_number(refused) == PANEL_BANK_CLOSED, "a write-back to a closed bank is refused");
-    printf("   a write-back to a closed bank: refused, number %u\n", panel_number(refused));
+    must_be(panel_number(refused) == PANEL_BANK_CLOSED && memcmp(before, s->memory, memory_len) == 0,
+            "a write-back to a closed bank is refused and leaves memory");
+    printf("   a write-back to a closed bank: refused with %u, memory is the same\n", panel_number(refused));
 
     surface_open(s, p.bank, p.page);
     uint32_t written = surface_call(s, PANEL_MASKED_WRITE, p.bank, p.block, STALE_WRITTEN, 0, 0, "write-back");
     must_be(memcmp(before, s->memory, memory_len) == 0, "the operator's marks stand after a stale write-back");
-    printf("   a stale slot, %u bytes written back over %u marks under the server's planes: memory is the same\n", written,
-           marks);
+    printf("   a stale slot, %u bytes over %u marked ones, written back under the server's planes: every mark stands\n",
+           written, marks);
 
     uint32_t untouched = surface_call(s, PANEL_UNMASKED_WRITE, p.bank, p.block, STALE_UNTOUCHED, 0, 0, "write-back");
     must_be(untouched == 0 && memcmp(before, s->memory, memory_len) == 0, "an untagged slot writes nothing back");
-    printf("   a stale slot without tags, written back unmasked: %u bytes, memory is the same\n", untouched);
+    printf("   a stale slot that nothing was written to, written back unmasked: %u bytes, every mark stands\n", untouched);
     surface_settle(s);
     free(before);
 }
@@ -336,7 +337,7 @@ int main(int argc, char **argv)
     printf("4. The display reads the screen\n");
     save_picture(&s, argc > 1 ? argv[1] : "six_oclock.png");
 
-    printf("5. What lost the marks in the trial version\n");
+    printf("5. What lost the marks in the trial version, tried on this one\n");
     write_stale_back(&s, place);
     surface_end(&s);
     return 0;
