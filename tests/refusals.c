@@ -58,44 +58,21 @@ static uint32_t *field(struct call *call, int i)
     return fields[i];
 }
 
-/* One field of a call at each edge that some operation has; each call on the same chip, so that none depends on another. */
+/* The numbers at which some operation's range ends. */
+static const uint32_t edges[] = {0,  1,  2,  3,  4,   5,   7,   8,   9,     15,    16,    17,         31,         32,
+                                 38, 39, 40, 41, 255, 256, 257, 258, 65535, 65536, 65537, 0x01000000, 0x80000000, 0xFFFFFFFF};
+enum { EDGES = sizeof edges / sizeof *edges, PAGE_EDGES = 3 };
+
+/* Those, and then the chip's last page and the two numbers behind it. */
+static uint32_t edge(const struct pair *pair, uint32_t e) { return e < EDGES ? edges[e] : pair->pages - 1 + (e - EDGES); }
+
+/* One field of a call at each edge; each call on the same chip, so that none depends on another. */
 static void edges_of(struct pair *pair, const uint8_t *state, uint32_t op)
 {
-    const uint32_t edges[] = {0,
-                              1,
-                              2,
-                              3,
-                              4,
-                              5,
-                              7,
-                              8,
-                              9,
-                              15,
-                              16,
-                              17,
-                              31,
-                              32,
-                              38,
-                              39,
-                              40,
-                              41,
-                              255,
-                              256,
-                              257,
-                              258,
-                              65535,
-                              65536,
-                              65537,
-                              0x01000000,
-                              0x80000000,
-                              0xFFFFFFFF,
-                              pair->pages - 1,
-                              pair->pages,
-                              pair->pages + 1};
     for (int i = 0; i < 6; i++)
-        for (size_t e = 0; e < sizeof edges / sizeof *edges; e++) {
+        for (uint32_t e = 0; e < EDGES + PAGE_EDGES; e++) {
             struct call call = plain(state, op);
-            *field(&call, i) = edges[e];
+            *field(&call, i) = edge(pair, e);
             pair_state(pair, state);
             pair_call(pair, &call);
         }
