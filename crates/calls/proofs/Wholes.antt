@@ -1,25 +1,24 @@
 -- A call's own line, and the refusals in front of it, are the call on a block as a whole. Assumes nothing.
 use mathlib.Core.Path.{_≡_, refl, sym, ap, _∙_}
-use mathlib.Core.Bool.{Bool, true, false, cond, not, _&&_}
-use mathlib.Core.List.{List, [], _∷_}
+use mathlib.Core.Bool.{true, false, _&&_}
+use mathlib.Core.List.{List}
 use Prim.Native.Nat.{ℕ, zero, suc, _^_, _<_, _≤_}
 use lib.Dec.{eqb, leb}
 use lib.ListN.{length, getD, drop}
-use borrow.Author.Tests.{eq-eqb, le-leb, lt-leb}
+use borrow.Author.Tests.{eq-eqb, le-leb}
 use Rattle.layout.specs.Numbers.{first, whenDone}
 use Rattle.layout.specs.Memory.{size}
 use Rattle.chip.specs.declared.Call.{Call}
-use Rattle.chip.specs.declared.Control.{Control}
 use Rattle.chip.specs.declared.Answer.{Answer}
 use Rattle.chip.specs.declared.Answer.the-variants.{Refused}
 use Rattle.chip.specs.declared.Refusal.the-variants.{IllFormed, MemoryLength, UnknownOperation}
-use Rattle.chip.specs.State.{slots, wellFormed}
+use Rattle.chip.specs.State.{slots}
 use Rattle.chip.specs.Operations.{Operation, row, operation}
 use Rattle.chip.specs.Steps.{memory-after}
 use Rattle.chip.specs.Answers.{refusalOf}
 use Rattle.chip.specs.Refusals.{number}
-use Rattle.chip.specs.Calls.{readIn, actedWith, pixelsWith, memoryWith, answeredWith, answeredOf, memoryLeft, memoryOf}
-use Rattle.stored.specs.Block.{encode, decodeControl, decode, wellFormedBlock}
+use Rattle.chip.specs.Calls.{actedWith, pixelsWith, memoryWith, answeredWith, answeredOf, memoryLeft, memoryOf}
+use Rattle.stored.specs.Block.{decodeControl, decode, wellFormedBlock}
 use Rattle.stored.specs.Doors.{blockAnswer, blockAfter, blockMemory}
 use Rattle.stored.proofs.RoundTrip.{encode-decode}
 use Rattle.steps.specs.Own.{ownNumber, ownAnswer, ownBlock, ownMemory}

@@ -10,13 +10,14 @@ use lib.Pow.{pow-pos}
 use lib.Seq.{getD-drop}
 use lib.Dec.{lit<}
 use lib.ListN.{getD, drop}
-use Rattle.bits.specs.Bits.{bit, byte, wordIn}
+use Rattle.bits.specs.Bits.{bit, wordIn}
 use Rattle.pixel.specs.declared.Write.{Write}
 use Rattle.pixel.specs.declared.Outcome.{Outcome}
 use Rattle.pixel.specs.Registers.{register, freshRegisters}
 use Rattle.pixel.specs.Writes.{used, intoSlot, intoWord, hits, newByte, outcomeOf}
 use Rattle.pixel.proofs.Outcomes.{byte-outcome, taken-lt, into-slot-lt, into-word-lt}
-use Rattle.bank.specs.Words.{wordAt, putWord}
+use Rattle.layout.proofs.Numbers.{and-left}
+use Rattle.bank.specs.Words.{putWord}
 use Rattle.bank.specs.Work.{inSlot}
 use Rattle.bank.proofs.Words.{word-at-once}
 use Rattle.chip.specs.declared.Control.{Control}
@@ -27,10 +28,9 @@ use Rattle.chip.specs.Writes.{painted, marked, tagWith}
 use Rattle.chip.specs.Steps.{tagOf, slotByte, oldWord, withTag, withHit, counted, control-after, pixels-after}
 use Rattle.chip.proofs.Tags.{mark-law}
 use Rattle.chip.proofs.Words.{slot-word}
-use Rattle.stored.specs.Block.{flagsAt, tagAt, pixelsAt, encode, decodeControl, wellFormedBlock}
+use Rattle.stored.specs.Block.{flagsAt, encode, decodeControl, wellFormedBlock}
 use Rattle.stored.proofs.Held.{Held, held-of, held-tag, held-flags, held-word}
 use Rattle.stored.proofs.Places.{words-lt}
-use Rattle.layout.proofs.Numbers.{and-left}
 use Rattle.steps.specs.Own.{hitMarked, settled}
 use Rattle.steps.proofs.Rows.{asked}
 use Rattle.steps.proofs.Changes.{counts}

@@ -14,7 +14,7 @@ ghost use lib.ListN.{length, drop};
 ghost use Rattle.bits.specs.Bits.{wordIn};
 ghost use Rattle.pixel.specs.Writes.{outcomeOf};
 ghost use Rattle.chip.specs.Steps.{slotByte};
-ghost use Rattle.stored.specs.Block.{decodeControl, wellFormedBlock};
+ghost use Rattle.stored.specs.Block.{wellFormedBlock};
 ghost use Rattle.steps.specs.Own.{ownAnswer, ownBlock, hitMarked, settled};
 
 // Picking is on already where it matters, and hit is set: both bits of the flags.

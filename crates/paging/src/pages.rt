@@ -6,13 +6,12 @@ use steps::done;
 use steps::operands;
 use stored::fields;
 ghost use mathlib.Core.Path.{_≡_};
-ghost use mathlib.Core.Bool.{true, false};
+ghost use mathlib.Core.Bool.{true};
 ghost use mathlib.Core.List.{List};
-ghost use Prim.Native.Nat.{ℕ, _+_, _%_, _^_};
+ghost use Prim.Native.Nat.{ℕ};
 ghost use lib.ListN.{length};
 ghost use Rattle.layout.specs.Memory.{size};
-ghost use Rattle.bank.specs.Words.{wordAt, putWord};
-ghost use Rattle.stored.specs.Block.{counterAt, decodeControl, wellFormedBlock};
+ghost use Rattle.stored.specs.Block.{decodeControl, wellFormedBlock};
 ghost use Rattle.steps.specs.Own.{ownAnswer, ownBlock, ownMemory};
 
 // Opens a closed bank at a page.

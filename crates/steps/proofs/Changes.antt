@@ -1,15 +1,15 @@
 -- A block with one field put and its calls counted is the chip with that part changed, stored. Assumes nothing.
 use mathlib.Core.Path.{_≡_}
-use mathlib.Core.Bool.{Bool, true, false, _&&_}
+use mathlib.Core.Bool.{true, false, _&&_}
 use mathlib.Core.List.{List}
 use Prim.Native.Nat.{ℕ, _+_, _%_, _^_, _<_, _≤_}
 use lib.Dec.{eqb}
 use lib.ListN.{length}
+use borrow.Author.Tests.{eqb-true}
 use Rattle.bits.specs.Bits.{within}
+use Rattle.layout.proofs.Numbers.{and-left, and-right}
 use Rattle.bank.specs.Words.{halfAt, wordAt, putWord}
 use Rattle.chip.specs.declared.Control.{Control}
-use borrow.Author.Tests.{eqb-true}
-use Rattle.layout.proofs.Numbers.{and-left, and-right}
 use Rattle.chip.specs.State.{closed, openPage, isClosed, wellFormed}
 use Rattle.chip.specs.Steps.{counted}
 use Rattle.chip.proofs.Accepted.{pages-fit, open-below}

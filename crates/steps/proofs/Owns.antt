@@ -1,33 +1,15 @@
 -- What is left of a call once its own number is known: the refusal, or what it does. Assumes nothing.
-use mathlib.Core.Path.{_≡_, refl, sym, ap, _∙_}
-use mathlib.Core.Bool.{Bool, true, false, cond, not, _&&_}
+use mathlib.Core.Path.{_≡_, ap}
+use mathlib.Core.Bool.{true, false, not, _&&_}
 use mathlib.Core.List.{List, [], _∷_}
 use Prim.Native.Nat.{ℕ, suc}
-use lib.Dec.{eqb}
 use lib.ListN.{drop}
-use Rattle.layout.specs.Numbers.{first, whenDone}
+use Rattle.layout.specs.Numbers.{first}
 use Rattle.chip.specs.declared.Call.{Call}
 use Rattle.chip.specs.declared.Control.{Control}
-use Rattle.chip.specs.declared.Answer.{Answer}
 use Rattle.chip.specs.declared.Answer.the-variants.{Refused}
 use Rattle.chip.specs.State.{slots}
-use Rattle.chip.specs.Operations.{
-  Operation,
-  access,
-  precharge,
-  duplicate,
-  readBlock,
-  writeBlock,
-  dataRead,
-  dataWrite,
-  writeTag,
-  writeRegister,
-  readRegister,
-  row,
-  operation,
-  allZero,
-  inRange,
-}
+use Rattle.chip.specs.Operations.{Operation, row, operation, allZero, inRange}
 use Rattle.chip.specs.Steps.{counted, control-after, pixels-after, memory-after, oldWord, slotByte}
 use Rattle.chip.specs.Answers.{answer, refusalOf}
 use Rattle.chip.specs.Refusals.{badBits, onOpen, onClosed, operandsFit, callTests}

@@ -7,9 +7,9 @@ use lib.Bits.{bitOr}
 use lib.ListN.{drop}
 use Rattle.pixel.specs.declared.Write.{Write}
 use Rattle.pixel.specs.declared.Outcome.{Outcome}
+use Rattle.layout.specs.Numbers.{first, whenDone}
 use Rattle.bank.specs.Words.{wordAt, putWord}
 use Rattle.bank.specs.Work.{inSlot}
-use Rattle.layout.specs.Numbers.{first, whenDone}
 use Rattle.chip.specs.declared.Call.{Call}
 use Rattle.chip.specs.declared.Answer.{Answer}
 use Rattle.chip.specs.declared.Answer.the-variants.{Refused}

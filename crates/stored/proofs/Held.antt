@@ -1,54 +1,24 @@
 -- A block that holds a chip, changed in place: with one field put, it holds the chip with that part changed. Assumes nothing.
-use mathlib.Core.Path.{_≡_, refl, sym, ap, ap₂, _∙_, subst}
+use mathlib.Core.Path.{_≡_, refl, sym, ap, ap₂, _∙_}
 use mathlib.Core.Bool.{Bool, true, false}
-use mathlib.Core.List.{List, [], _∷_, _++_}
-use Prim.Native.Nat.{ℕ, zero, suc, _+_, _-_, _*_, _/_, _%_, _^_, _<_, _≤_}
+use mathlib.Core.List.{List}
+use Prim.Native.Nat.{ℕ, _+_, _-_, _*_, _%_, _^_, _<_, _≤_}
 use native.Mathlib.Omega.{arith}
 use native.Mathlib.Nat.{mod-lt, add-assoc}
 use lib.Dec.{lit<, lit≤}
 use lib.Pow.{pow-pos}
-use lib.ListN.{length, getD, set, take, drop, length-drop}
-use lib.Seq.{getD-drop}
+use lib.ListN.{length, getD, set, drop}
 use Rattle.bits.specs.Bits.{bit, byte, digit}
 use Rattle.bits.proofs.Laws.{byte-lt}
 use Rattle.bank.specs.Update.{update}
 use Rattle.bank.specs.Words.{halfAt, putHalf, wordAt, putWord}
 use Rattle.bank.proofs.Updates.{length-update, update-all, update-at, update-other, drop-update}
-use Rattle.bank.proofs.Words.{half-put-same, word-put-same, length-put-half, length-put-word, bytes-put-half, bytes-put-word}
+use Rattle.bank.proofs.Words.{word-put-same, length-put-half, length-put-word, bytes-put-half, bytes-put-word}
 use Rattle.chip.specs.declared.Control.{Control}
-use Rattle.chip.specs.declared.Chip.{Chip}
-use Rattle.chip.specs.State.{wellFormed}
 use Rattle.chip.specs.Steps.{withPage, withTag, counted}
-use Rattle.stored.specs.Block.{
-  pageAt,
-  registerAt,
-  flagsAt,
-  counterAt,
-  tagAt,
-  pixelsAt,
-  halvesAt,
-  wordsAt,
-  header,
-  encode,
-  decodeControl,
-  decode,
-  wellFormedBlock,
-}
+use Rattle.stored.specs.Block.{pageAt, registerAt, flagsAt, counterAt, tagAt, pixelsAt, halvesAt, wordsAt, header, encode, decodeControl, decode, wellFormedBlock}
 use Rattle.stored.proofs.RoundTrip.{Framed, well-framed, framed-back, flags-lt, flag-0, flag-1}
-use Rattle.stored.proofs.Places.{
-  Alike,
-  half-alike,
-  word-alike,
-  halves-alike,
-  words-alike,
-  drop-alike,
-  half-before,
-  half-behind,
-  word-before,
-  word-behind,
-  halves-put,
-  words-put,
-}
+use Rattle.stored.proofs.Places.{Alike, half-alike, word-alike, halves-alike, words-alike, drop-alike, half-before, half-behind, word-before, word-behind, halves-put, words-put}
 
 -- a framed block from which the chip is read
 pub record Held (s : List ℕ) (c : Control) (pixels : List ℕ) : Type 0 where

@@ -9,10 +9,10 @@ use lib.Dec.{eqb, lit<}
 use lib.Pow.{pow-pos}
 use lib.ListN.{length, getD, set, length-set}
 use Rattle.bits.proofs.Laws.{word-lt}
+use Rattle.layout.specs.Numbers.{whenDone}
 use Rattle.bank.specs.Update.{update}
 use Rattle.bank.specs.Work.{loaded}
 use Rattle.bank.proofs.Updates.{length-update, update-all}
-use Rattle.layout.specs.Numbers.{whenDone}
 use Rattle.chip.specs.declared.Acted.{Acted}
 use Rattle.chip.specs.declared.Call.{Call}
 use Rattle.chip.specs.declared.Chip.{Chip}

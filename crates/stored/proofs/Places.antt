@@ -1,13 +1,12 @@
 -- Fields of a block in which some bytes were changed: those elsewhere read the same, and one put in place reads so. Assumes nothing.
 use mathlib.Core.Path.{_≡_, refl, sym, ap, ap₂, _∙_}
-use mathlib.Core.List.{List, [], _∷_}
+use mathlib.Core.List.{List, _∷_}
 use Prim.Native.Nat.{ℕ, zero, suc, _+_, _*_, _^_, _<_, _≤_}
 use native.Mathlib.Omega.{arith}
 use native.Mathlib.Nat.{add-zero}
 use lib.Dec.{lit<}
 use lib.ListN.{length, getD, set, drop, length-drop}
 use lib.Seq.{getD-drop, ext-getD}
-use Rattle.bank.specs.Update.{update}
 use Rattle.bank.specs.Words.{halfAt, putHalf, wordAt, putWord}
 use Rattle.bank.proofs.Updates.{update-other}
 use Rattle.bank.proofs.Words.{half-put-same, word-put-same, word-at-lt}

@@ -6,8 +6,8 @@ use mir.Val.{Val, Fits}
 use denote.Laws.{Is}
 use denote.Struct.Declared.{row}
 use borrow.Author.Needs.{needs}
-use Rattle.chip.proofs.Chip.{the-type}
 use Rattle.chip.specs.declared.Chip.{Chip}
+use Rattle.chip.proofs.Chip.{the-type}
 use Rattle.stored.proofs.RoundTrip.{Sized}
 
 pub sized : (chip : Chip) (vs : List Val) → Is (row the-type) chip vs → Sized chip

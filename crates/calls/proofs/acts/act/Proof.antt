@@ -1,17 +1,15 @@
 -- `calls::acts::act` meets its contract. Assumes nothing.
-use Rattle.calls.proofs.Wholes.{ill-formed, wrong-length}
-use Rattle.steps.proofs.Changes.{well-long}
-use Rattle.stored.proofs.Forms.{passed, failed}
-use Rattle.stored.specs.Block.{decodeControl, wellFormedBlock}
-use Rattle.layout.specs.Memory.{size}
-use borrow.Author.Tests.{ne-eqb}
-use lib.ListN.{length, getD}
-use denote.Ref.{now}
+use Prim.Native.Nat.{_*_}
 use native.Mathlib.Omega.{arith}
-use Prim.Native.Nat.{ℕ, _*_, _^_, _<_, _≤_}
-use mathlib.Core.Bool.{true}
-use mathlib.Core.Path.{_≡_, refl, sym, ap, _∙_}
+use lib.ListN.{length}
+use denote.Ref.{now}
+use borrow.Author.Tests.{ne-eqb}
 use borrow.Author.Needs.{needs}
+use Rattle.layout.specs.Memory.{size}
+use Rattle.stored.specs.Block.{decodeControl}
+use Rattle.stored.proofs.Forms.{passed, failed}
+use Rattle.steps.proofs.Changes.{well-long}
+use Rattle.calls.proofs.Wholes.{ill-formed, wrong-length}
 use Rattle.calls.proofs.acts.act.Statement.{statement}
 use Rattle.calls.proofs.acts.act.Tie as tie
 

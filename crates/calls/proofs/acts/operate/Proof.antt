@@ -1,16 +1,14 @@
 -- `calls::acts::operate` meets its contract. Assumes nothing.
 use mathlib.Core.Logic.{_⊎_, inl, inr}
-use Rattle.calls.proofs.Wholes.{known, untouched}
-use Rattle.steps.proofs.Rows.{row-stateful}
-use Rattle.chip.specs.Steps.{memory-after}
+use mathlib.Core.Path.{refl, _∙_}
+use Prim.Native.Nat.{ℕ, _^_, _<_, _≤_}
+use native.Mathlib.Omega.{arith}
 use lib.ListN.{getD}
 use denote.Ref.{now}
-use native.Mathlib.Omega.{arith}
-use Prim.Native.Nat.{ℕ, _^_, _<_, _≤_}
-use mathlib.Core.List.{List, [], _∷_}
-use mathlib.Core.Bool.{true, false, _&&_}
-use mathlib.Core.Path.{_≡_, refl, sym, ap, _∙_}
 use borrow.Author.Needs.{needs}
+use Rattle.chip.specs.Steps.{memory-after}
+use Rattle.steps.proofs.Rows.{row-stateful}
+use Rattle.calls.proofs.Wholes.{known, untouched}
 use Rattle.calls.proofs.acts.operate.Statement.{statement}
 use Rattle.calls.proofs.acts.operate.Tie as tie
 

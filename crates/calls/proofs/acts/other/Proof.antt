@@ -1,17 +1,16 @@
 -- `calls::acts::other` meets its contract: each arm is its operation, and the last is no operation. Assumes nothing.
-use Rattle.calls.proofs.Wholes.{known, unknown, untouched}
-use Rattle.steps.proofs.Rows.{row-access, row-precharge, row-read-block, row-data-read, row-stateless, row-write-tag, row-write-register, row-read-register}
-use Rattle.chip.specs.Steps.{memory-after}
-use borrow.Author.Tests.{le-leb, lt-leb}
-use lib.ListN.{getD}
-use lib.Dec.{eqb, leb}
-use denote.Ref.{now}
+use mathlib.Core.Bool.{false, _&&_}
+use mathlib.Core.Path.{_≡_, refl, _∙_}
+use Prim.Native.Nat.{ℕ, _^_, _<_}
 use native.Mathlib.Omega.{arith}
-use Prim.Native.Nat.{ℕ, _^_, _<_, _≤_}
-use mathlib.Core.List.{List, [], _∷_}
-use mathlib.Core.Bool.{true, false, _&&_}
-use mathlib.Core.Path.{_≡_, refl, sym, ap, _∙_}
+use lib.ListN.{getD}
+use lib.Dec.{leb}
+use denote.Ref.{now}
+use borrow.Author.Tests.{le-leb, lt-leb}
 use borrow.Author.Needs.{needs}
+use Rattle.chip.specs.Steps.{memory-after}
+use Rattle.steps.proofs.Rows.{row-access, row-precharge, row-read-block, row-data-read, row-stateless, row-write-tag, row-write-register, row-read-register}
+use Rattle.calls.proofs.Wholes.{known, unknown, untouched}
 use Rattle.calls.proofs.acts.other.Statement.{statement}
 use Rattle.calls.proofs.acts.other.Tie as tie
 

@@ -1,13 +1,13 @@
 -- `calls::value::perform` meets its contract: the stored chip, acted on and read back. Assumes nothing.
-use Rattle.stored.proofs.ByValue.{answer-by-value, chip-by-value, memory-by-value}
-use Rattle.stored.proofs.Sizes.{sized}
+use mathlib.Core.List.{List}
+use mathlib.Core.Path.{ap, _∙_}
+use Prim.Native.Nat.{ℕ, _^_, _<_}
+use denote.Ref.{now}
+use borrow.Author.Needs.{needs}
 use Rattle.stored.specs.Doors.{blockAnswer, blockAfter, blockMemory}
 use Rattle.stored.specs.Block.{decode}
-use denote.Ref.{now}
-use Prim.Native.Nat.{ℕ, _^_, _<_}
-use mathlib.Core.List.{List}
-use mathlib.Core.Path.{_≡_, ap, _∙_}
-use borrow.Author.Needs.{needs}
+use Rattle.stored.proofs.ByValue.{answer-by-value, chip-by-value, memory-by-value}
+use Rattle.stored.proofs.Sizes.{sized}
 use Rattle.calls.proofs.value.perform.Statement.{statement}
 use Rattle.calls.proofs.value.perform.Tie as tie
 

@@ -1,26 +1,24 @@
 -- `drawing::registers::read_register` meets its contract. Assumes nothing.
-use Rattle.steps.proofs.Rows.{row-read-register}
-use Rattle.stored.proofs.Held.{held-of}
-use borrow.Author.Tests.{leb-true}
-use lib.Dec.{leb}
 use mathlib.Core.Bool.{false}
+use mathlib.Core.Path.{refl, ap, _∙_}
+use Prim.Native.Nat.{ℕ}
+use native.Mathlib.Omega.{arith}
+use lib.Dec.{leb}
+use denote.Ref.{now}
+use borrow.Author.Tests.{leb-true}
+use borrow.Author.Needs.{needs}
+use Rattle.layout.proofs.Numbers.{and-left, and-right}
 use Rattle.chip.specs.declared.Answer.the-variants.{Done}
 use Rattle.chip.specs.Operations.{readRegister, inRange}
-use Rattle.chip.specs.State.{slots}
-use Rattle.steps.proofs.Changes.{further, counts}
-use Rattle.steps.proofs.Owns.{outside, not-allowed, none-applies, refused, done-answer, done-block}
 use Rattle.chip.specs.Steps.{control-after, pixels-after}
 use Rattle.chip.specs.Refusals.{badBits, onOpen, onClosed}
 use Rattle.chip.specs.Answers.{refusalOf, answer}
-use Rattle.stored.proofs.Forms.{passed, failed, equal, unequal}
 use Rattle.stored.specs.Block.{decodeControl}
-use Rattle.layout.proofs.Numbers.{and-left, and-right}
-use denote.Ref.{now}
-use native.Mathlib.Omega.{arith}
-use Prim.Native.Nat.{ℕ, _<_, _≤_}
-use mathlib.Core.List.{List, [], _∷_}
-use mathlib.Core.Path.{_≡_, refl, sym, ap, _∙_}
-use borrow.Author.Needs.{needs}
+use Rattle.stored.proofs.Held.{held-of}
+use Rattle.stored.proofs.Forms.{passed, failed}
+use Rattle.steps.proofs.Rows.{row-read-register}
+use Rattle.steps.proofs.Changes.{counts}
+use Rattle.steps.proofs.Owns.{outside, none-applies, refused, done-answer, done-block}
 use Rattle.drawing.proofs.registers.read_register.Statement.{statement}
 use Rattle.drawing.proofs.registers.read_register.Tie as tie
 

@@ -1,9 +1,8 @@
 -- `drawing::registers::writable_bits` meets its contract. Assumes nothing.
-use Rattle.drawing.proofs.Settings.{writable-low}
 use mathlib.Core.Path.{_≡_}
 use native.Mathlib.Omega.{arith}
-use Prim.Native.Nat.{ℕ}
 use Rattle.chip.specs.State.{writable}
+use Rattle.drawing.proofs.Settings.{writable-low}
 use Rattle.drawing.proofs.registers.writable_bits.Statement.{statement}
 use Rattle.drawing.proofs.registers.writable_bits.Tie as tie
 

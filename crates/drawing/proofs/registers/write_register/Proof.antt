@@ -1,33 +1,26 @@
 -- `drawing::registers::write_register` meets its contract. Assumes nothing.
-use Prim.Native.Nat.{_%_, _^_}
-use Rattle.chip.specs.Steps.{withRegister, counted}
+use mathlib.Core.Path.{_≡_, refl, sym, ap, _∙_}
+use Prim.Native.Nat.{_%_, _^_, ℕ, _<_}
+use native.Mathlib.Omega.{arith}
 use lib.ListN.{drop}
-use lib.Dec.{lit≤}
-use Rattle.drawing.proofs.Settings.{plain-register, compare-register}
-use Rattle.steps.proofs.Rows.{row-write-register}
-use Rattle.stored.proofs.Held.{held-of, held-register, held-flags}
-use Rattle.stored.specs.Block.{registerAt, flagsAt, encode}
-use Rattle.chip.specs.Operations.{writeRegister, inRange}
-use Rattle.chip.specs.declared.Control.{Control}
-use Rattle.bank.specs.Words.{putWord}
-use Rattle.bits.specs.Bits.{within}
+use lib.Dec.{lit≤, leb}
+use denote.Ref.{now}
 use borrow.Author.Tests.{leb-true, ne-eqb}
-use lib.Dec.{leb, eqb}
-use mathlib.Core.Path.{ap₂}
-use Rattle.steps.proofs.Changes.{further, counts}
-use Rattle.steps.proofs.Owns.{outside, not-allowed, none-applies, refused, done-answer, done-block}
-use Rattle.chip.specs.Steps.{control-after, pixels-after}
+use borrow.Author.Needs.{needs}
+use Rattle.bits.specs.Bits.{within}
+use Rattle.layout.proofs.Numbers.{and-left, and-right}
+use Rattle.chip.specs.declared.Control.{Control}
+use Rattle.chip.specs.Steps.{withRegister, counted, control-after, pixels-after}
+use Rattle.chip.specs.Operations.{writeRegister, inRange}
 use Rattle.chip.specs.Refusals.{badBits, onOpen, onClosed}
 use Rattle.chip.specs.Answers.{refusalOf, answer}
-use Rattle.stored.proofs.Forms.{passed, failed, equal, unequal}
-use Rattle.stored.specs.Block.{decodeControl}
-use Rattle.layout.proofs.Numbers.{and-left, and-right}
-use denote.Ref.{now}
-use native.Mathlib.Omega.{arith}
-use Prim.Native.Nat.{ℕ, _<_, _≤_}
-use mathlib.Core.List.{List, [], _∷_}
-use mathlib.Core.Path.{_≡_, refl, sym, ap, _∙_}
-use borrow.Author.Needs.{needs}
+use Rattle.stored.specs.Block.{encode, decodeControl}
+use Rattle.stored.proofs.Held.{held-of, held-register, held-flags}
+use Rattle.stored.proofs.Forms.{passed, failed}
+use Rattle.steps.proofs.Rows.{row-write-register}
+use Rattle.steps.proofs.Changes.{further, counts}
+use Rattle.steps.proofs.Owns.{outside, not-allowed, none-applies, refused, done-answer, done-block}
+use Rattle.drawing.proofs.Settings.{plain-register, compare-register}
 use Rattle.drawing.proofs.registers.write_register.Statement.{statement}
 use Rattle.drawing.proofs.registers.write_register.Tie as tie
 

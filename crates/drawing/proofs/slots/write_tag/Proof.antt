@@ -1,32 +1,26 @@
 -- `drawing::slots::write_tag` meets its contract. Assumes nothing.
-use Rattle.stored.specs.Block.{encode}
-use Rattle.chip.specs.Steps.{withTag, counted}
+use mathlib.Core.Bool.{Bool, true, false, cond}
+use mathlib.Core.Path.{_≡_, refl, ap, _∙_}
+use Prim.Native.Nat.{_^_, ℕ, _<_}
+use native.Mathlib.Omega.{arith}
 use lib.ListN.{drop}
-use Prim.Native.Nat.{_^_}
-use lib.Bits.{or-lt}
-use Rattle.steps.proofs.Rows.{row-write-tag}
-use Rattle.stored.proofs.Held.{held-of, held-tag}
+use lib.Bits.{or-lt, bitOr}
+use lib.Dec.{eqb}
+use denote.Ref.{now}
 use borrow.Author.Tests.{ltb-true}
-use Rattle.chip.specs.Steps.{tagOf}
+use borrow.Author.Needs.{needs}
+use Rattle.layout.proofs.Numbers.{and-left}
+use Rattle.chip.specs.Steps.{withTag, counted, tagOf, control-after, pixels-after}
 use Rattle.chip.specs.Operations.{writeTag, inRange}
 use Rattle.chip.specs.State.{slots}
-use lib.Dec.{eqb}
-use lib.Bits.{bitOr}
-use mathlib.Core.Bool.{Bool, true, false, cond}
-use Rattle.steps.proofs.Changes.{further, counts}
-use Rattle.steps.proofs.Owns.{outside, not-allowed, none-applies, refused, done-answer, done-block}
-use Rattle.chip.specs.Steps.{control-after, pixels-after}
 use Rattle.chip.specs.Refusals.{badBits, onOpen, onClosed}
 use Rattle.chip.specs.Answers.{refusalOf, answer}
-use Rattle.stored.proofs.Forms.{passed, failed, equal, unequal}
-use Rattle.stored.specs.Block.{decodeControl}
-use Rattle.layout.proofs.Numbers.{and-left, and-right}
-use denote.Ref.{now}
-use native.Mathlib.Omega.{arith}
-use Prim.Native.Nat.{ℕ, _<_, _≤_}
-use mathlib.Core.List.{List, [], _∷_}
-use mathlib.Core.Path.{_≡_, refl, sym, ap, _∙_}
-use borrow.Author.Needs.{needs}
+use Rattle.stored.specs.Block.{encode, decodeControl}
+use Rattle.stored.proofs.Held.{held-of, held-tag}
+use Rattle.stored.proofs.Forms.{passed, failed}
+use Rattle.steps.proofs.Rows.{row-write-tag}
+use Rattle.steps.proofs.Changes.{further, counts}
+use Rattle.steps.proofs.Owns.{outside, none-applies, refused, done-answer, done-block}
 use Rattle.drawing.proofs.slots.write_tag.Statement.{statement}
 use Rattle.drawing.proofs.slots.write_tag.Tie as tie
 

@@ -1,10 +1,10 @@
 -- `drawing::writes::mark_hit` meets its contract. Assumes nothing.
-use Rattle.steps.specs.Own.{hitMarked}
-use Rattle.stored.specs.Block.{decodeControl}
-use denote.Ref.{now}
 use mathlib.Core.Bool.{Bool, true, false, _&&_}
-use mathlib.Core.Path.{_≡_, refl, sym, ap, _∙_}
+use mathlib.Core.Path.{_≡_, sym, ap, _∙_}
+use denote.Ref.{now}
 use borrow.Author.Needs.{needs}
+use Rattle.stored.specs.Block.{decodeControl}
+use Rattle.steps.specs.Own.{hitMarked}
 use Rattle.drawing.proofs.writes.mark_hit.Statement.{statement}
 use Rattle.drawing.proofs.writes.mark_hit.Tie as tie
 

@@ -1,7 +1,7 @@
 -- `drawing::writes::settle` meets its contract. Assumes nothing.
-use Rattle.steps.specs.Own.{settled}
 use mathlib.Core.Path.{refl}
 use borrow.Author.Needs.{needs}
+use Rattle.steps.specs.Own.{settled}
 use Rattle.drawing.proofs.writes.settle.Statement.{statement}
 use Rattle.drawing.proofs.writes.settle.Tie as tie
 

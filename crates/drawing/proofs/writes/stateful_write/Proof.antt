@@ -1,33 +1,30 @@
 -- `drawing::writes::stateful_write` meets its contract. Assumes nothing.
-use Rattle.steps.proofs.Rows.{asked, row-stateful}
+use mathlib.Core.Bool.{false}
+use mathlib.Core.List.{List}
+use mathlib.Core.Path.{_≡_, refl, ap, _∙_}
+use Prim.Native.Nat.{ℕ}
+use native.Mathlib.Omega.{arith}
+use lib.ListN.{drop}
+use lib.Dec.{eqb}
+use denote.Ref.{now}
+use borrow.Author.Needs.{needs}
+use Rattle.bits.specs.Bits.{wordIn}
+use Rattle.pixel.specs.declared.Outcome.{Outcome}
+use Rattle.pixel.specs.Writes.{intoSlot, intoWord, outcomeOf}
 use Rattle.pixel.proofs.Outcomes.{into-slot-lt, into-word-lt}
-use Rattle.drawing.proofs.Draws.{write-leaves}
-use Rattle.steps.specs.Own.{settled}
-use Rattle.chip.proofs.Accepted.{write-range}
+use Rattle.layout.proofs.Numbers.{and-left}
+use Rattle.chip.specs.declared.Answer.the-variants.{Done}
 use Rattle.chip.specs.Steps.{oldWord, slotByte}
 use Rattle.chip.specs.Operations.{dataWrite, inRange}
 use Rattle.chip.specs.State.{slots}
-use Rattle.chip.specs.declared.Answer.the-variants.{Done}
-use Rattle.pixel.specs.Writes.{intoSlot, intoWord, outcomeOf}
-use Rattle.pixel.specs.declared.Outcome.{Outcome}
-use Rattle.bits.specs.Bits.{wordIn}
-use lib.ListN.{drop}
-use lib.Dec.{eqb}
-use mathlib.Core.Bool.{true, false}
-use Rattle.steps.proofs.Changes.{further, counts}
-use Rattle.steps.proofs.Owns.{outside, not-allowed, none-applies, refused, done-answer, done-block}
-use Rattle.chip.specs.Steps.{control-after, pixels-after}
 use Rattle.chip.specs.Refusals.{badBits, onOpen, onClosed}
 use Rattle.chip.specs.Answers.{refusalOf, answer}
-use Rattle.stored.proofs.Forms.{passed, failed, equal, unequal}
+use Rattle.chip.proofs.Accepted.{write-range}
 use Rattle.stored.specs.Block.{decodeControl}
-use Rattle.layout.proofs.Numbers.{and-left, and-right}
-use denote.Ref.{now}
-use native.Mathlib.Omega.{arith}
-use Prim.Native.Nat.{ℕ, _<_, _≤_}
-use mathlib.Core.List.{List, [], _∷_}
-use mathlib.Core.Path.{_≡_, refl, sym, ap, _∙_}
-use borrow.Author.Needs.{needs}
+use Rattle.stored.proofs.Forms.{passed, failed}
+use Rattle.steps.proofs.Rows.{asked, row-stateful}
+use Rattle.steps.proofs.Owns.{outside, none-applies, refused, done-answer, done-block}
+use Rattle.drawing.proofs.Draws.{write-leaves}
 use Rattle.drawing.proofs.writes.stateful_write.Statement.{statement}
 use Rattle.drawing.proofs.writes.stateful_write.Tie as tie
 

@@ -1,35 +1,28 @@
 -- `drawing::writes::stateless_write` meets its contract. Assumes nothing.
-use lib.ListN.{getD}
-use Prim.Native.Nat.{_^_}
-use Rattle.drawing.proofs.Draws.{stateless-slot, stateless-word}
-use Rattle.steps.proofs.Rows.{asked, row-stateless}
-use Rattle.drawing.proofs.Draws.{write-leaves}
-use Rattle.steps.specs.Own.{settled}
-use Rattle.chip.proofs.Accepted.{write-range}
+use mathlib.Core.Bool.{true}
+use mathlib.Core.Path.{_≡_, refl, ap, _∙_}
+use Prim.Native.Nat.{_^_, ℕ, _<_}
+use native.Mathlib.Omega.{arith}
+use lib.ListN.{getD, drop}
+use lib.Dec.{eqb}
+use denote.Ref.{now}
+use borrow.Author.Needs.{needs}
+use Rattle.bits.specs.Bits.{wordIn}
+use Rattle.pixel.specs.declared.Outcome.{Outcome}
+use Rattle.pixel.specs.Writes.{outcomeOf}
+use Rattle.layout.proofs.Numbers.{and-left}
+use Rattle.chip.specs.declared.Answer.the-variants.{Done}
 use Rattle.chip.specs.Steps.{oldWord, slotByte}
 use Rattle.chip.specs.Operations.{dataWrite, inRange}
 use Rattle.chip.specs.State.{slots}
-use Rattle.chip.specs.declared.Answer.the-variants.{Done}
-use Rattle.pixel.specs.Writes.{intoSlot, intoWord, outcomeOf}
-use Rattle.pixel.specs.declared.Outcome.{Outcome}
-use Rattle.bits.specs.Bits.{wordIn}
-use lib.ListN.{drop}
-use lib.Dec.{eqb}
-use mathlib.Core.Bool.{true, false}
-use Rattle.steps.proofs.Changes.{further, counts}
-use Rattle.steps.proofs.Owns.{outside, not-allowed, none-applies, refused, done-answer, done-block}
-use Rattle.chip.specs.Steps.{control-after, pixels-after}
 use Rattle.chip.specs.Refusals.{badBits, onOpen, onClosed}
 use Rattle.chip.specs.Answers.{refusalOf, answer}
-use Rattle.stored.proofs.Forms.{passed, failed, equal, unequal}
+use Rattle.chip.proofs.Accepted.{write-range}
 use Rattle.stored.specs.Block.{decodeControl}
-use Rattle.layout.proofs.Numbers.{and-left, and-right}
-use denote.Ref.{now}
-use native.Mathlib.Omega.{arith}
-use Prim.Native.Nat.{ℕ, _<_, _≤_}
-use mathlib.Core.List.{List, [], _∷_}
-use mathlib.Core.Path.{_≡_, refl, sym, ap, _∙_}
-use borrow.Author.Needs.{needs}
+use Rattle.stored.proofs.Forms.{passed, failed}
+use Rattle.steps.proofs.Rows.{asked, row-stateless}
+use Rattle.steps.proofs.Owns.{outside, none-applies, refused, done-answer, done-block}
+use Rattle.drawing.proofs.Draws.{stateless-slot, stateless-word, write-leaves}
 use Rattle.drawing.proofs.writes.stateless_write.Statement.{statement}
 use Rattle.drawing.proofs.writes.stateless_write.Tie as tie
 

@@ -1,16 +1,16 @@
 -- `paging::blocks::load_slot` meets its contract: the pixels are lent from the block. Assumes nothing.
-use Rattle.bank.proofs.Updates.{update-lent}
+use mathlib.Core.List.{List}
+use mathlib.Core.Path.{ap, ap₂, _∙_}
+use Prim.Native.Nat.{ℕ, _-_}
+use native.Mathlib.Omega.{arith}
+use lib.ListN.{length, getD, take, drop, length-take, length-drop}
+use denote.Ref.{now}
+use borrow.Rule.Slice.PartMut.{putMid}
+use borrow.Author.Needs.{needs}
+use Rattle.layout.specs.Memory.{address}
 use Rattle.bank.specs.Work.{inSlot, loaded}
 use Rattle.bank.specs.Update.{update}
-use Rattle.layout.specs.Memory.{address}
-use lib.ListN.{length, getD, take, drop, length-take, length-drop}
-use borrow.Rule.Slice.PartMut.{putMid}
-use denote.Ref.{now}
-use native.Mathlib.Omega.{arith}
-use Prim.Native.Nat.{ℕ, _+_, _-_, _*_, _<_, _≤_}
-use mathlib.Core.List.{List}
-use mathlib.Core.Path.{_≡_, refl, sym, ap, ap₂, _∙_}
-use borrow.Author.Needs.{needs}
+use Rattle.bank.proofs.Updates.{update-lent}
 use Rattle.paging.proofs.blocks.load_slot.Statement.{statement}
 use Rattle.paging.proofs.blocks.load_slot.Tie as tie
 

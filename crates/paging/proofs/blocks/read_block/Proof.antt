@@ -1,36 +1,26 @@
 -- `paging::blocks::read_block` meets its contract. Assumes nothing.
-use Rattle.chip.specs.State.{openPage}
+use mathlib.Core.Path.{refl, ap, _∙_}
+use native.Mathlib.Omega.{arith}
 use lib.ListN.{getD}
-use Rattle.stored.proofs.Held.{held-tag, held-pixels}
-use Rattle.stored.specs.Block.{tagAt}
+use lib.Dec.{lit<}
+use denote.Ref.{now}
+use borrow.Author.Needs.{needs}
+use Rattle.layout.specs.Memory.{address}
+use Rattle.layout.proofs.Numbers.{and-left}
 use Rattle.bank.specs.Words.{putWord}
 use Rattle.bank.specs.Work.{inSlot, loaded}
-use Rattle.layout.specs.Memory.{address}
-use lib.Dec.{lit<}
-use Rattle.steps.proofs.Owns.{on-closed}
-use Rattle.steps.proofs.Changes.{pages-in, page-below}
-use Rattle.steps.proofs.Rows.{row-read-block}
-use Rattle.stored.proofs.Held.{held-of}
-use Rattle.chip.proofs.Accepted.{block-range}
+use Rattle.chip.specs.State.{openPage, slots, closed, isClosed}
 use Rattle.chip.specs.Operations.{readBlock, inRange}
-use Rattle.chip.specs.State.{slots, closed, isClosed}
-use lib.ListN.{drop}
-use lib.Dec.{eqb}
-use mathlib.Core.Bool.{_&&_}
-use Rattle.steps.proofs.Changes.{further, counts}
-use Rattle.steps.proofs.Owns.{outside, not-allowed, none-applies, refused, done-answer, done-block}
 use Rattle.chip.specs.Steps.{control-after, pixels-after}
 use Rattle.chip.specs.Refusals.{badBits, onOpen, onClosed}
 use Rattle.chip.specs.Answers.{refusalOf, answer}
+use Rattle.chip.proofs.Accepted.{block-range}
+use Rattle.stored.specs.Block.{tagAt, decodeControl}
+use Rattle.stored.proofs.Held.{held-tag, held-pixels, held-of}
 use Rattle.stored.proofs.Forms.{passed, failed, equal, unequal}
-use Rattle.stored.specs.Block.{decodeControl}
-use Rattle.layout.proofs.Numbers.{and-left, and-right}
-use denote.Ref.{now}
-use native.Mathlib.Omega.{arith}
-use Prim.Native.Nat.{ℕ, _<_, _≤_}
-use mathlib.Core.List.{List, [], _∷_}
-use mathlib.Core.Path.{_≡_, refl, sym, ap, _∙_}
-use borrow.Author.Needs.{needs}
+use Rattle.steps.proofs.Owns.{on-closed, outside, none-applies, refused, done-answer, done-block}
+use Rattle.steps.proofs.Changes.{pages-in, page-below, further, counts}
+use Rattle.steps.proofs.Rows.{row-read-block}
 use Rattle.paging.proofs.blocks.read_block.Statement.{statement}
 use Rattle.paging.proofs.blocks.read_block.Tie as tie
 

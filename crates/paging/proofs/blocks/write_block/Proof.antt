@@ -1,33 +1,26 @@
 -- `paging::blocks::write_block` meets its contract. Assumes nothing.
-use Rattle.steps.proofs.Owns.{done-memory}
-use Rattle.bank.specs.Work.{tagged}
-use Rattle.chip.specs.Steps.{memory-after}
-use Rattle.chip.specs.declared.Answer.the-variants.{Done}
 use mathlib.Core.Bool.{false}
-use Rattle.steps.proofs.Owns.{on-closed}
-use Rattle.steps.proofs.Changes.{pages-in, page-below}
-use Rattle.steps.proofs.Rows.{row-write-block}
-use Rattle.stored.proofs.Held.{held-of}
-use Rattle.chip.proofs.Accepted.{block-range}
+use mathlib.Core.Path.{refl, ap, _∙_}
+use Prim.Native.Nat.{ℕ}
+use native.Mathlib.Omega.{arith}
+use lib.Dec.{eqb}
+use denote.Ref.{now}
+use borrow.Author.Needs.{needs}
+use Rattle.layout.proofs.Numbers.{and-left}
+use Rattle.bank.specs.Work.{tagged}
+use Rattle.chip.specs.declared.Answer.the-variants.{Done}
+use Rattle.chip.specs.Steps.{memory-after, control-after, pixels-after}
 use Rattle.chip.specs.Operations.{writeBlock, inRange}
 use Rattle.chip.specs.State.{slots, closed, isClosed}
-use lib.ListN.{drop}
-use lib.Dec.{eqb}
-use mathlib.Core.Bool.{_&&_}
-use Rattle.steps.proofs.Changes.{further, counts}
-use Rattle.steps.proofs.Owns.{outside, not-allowed, none-applies, refused, done-answer, done-block}
-use Rattle.chip.specs.Steps.{control-after, pixels-after}
 use Rattle.chip.specs.Refusals.{badBits, onOpen, onClosed}
 use Rattle.chip.specs.Answers.{refusalOf, answer}
-use Rattle.stored.proofs.Forms.{passed, failed, equal, unequal}
+use Rattle.chip.proofs.Accepted.{block-range}
 use Rattle.stored.specs.Block.{decodeControl}
-use Rattle.layout.proofs.Numbers.{and-left, and-right}
-use denote.Ref.{now}
-use native.Mathlib.Omega.{arith}
-use Prim.Native.Nat.{ℕ, _<_, _≤_}
-use mathlib.Core.List.{List, [], _∷_}
-use mathlib.Core.Path.{_≡_, refl, sym, ap, _∙_}
-use borrow.Author.Needs.{needs}
+use Rattle.stored.proofs.Held.{held-of}
+use Rattle.stored.proofs.Forms.{passed, failed, equal, unequal}
+use Rattle.steps.proofs.Owns.{done-memory, on-closed, outside, none-applies, refused, done-answer, done-block}
+use Rattle.steps.proofs.Changes.{pages-in, page-below, counts}
+use Rattle.steps.proofs.Rows.{row-write-block}
 use Rattle.paging.proofs.blocks.write_block.Statement.{statement}
 use Rattle.paging.proofs.blocks.write_block.Tie as tie
 

@@ -1,16 +1,12 @@
 -- `paging::blocks::write_slot` meets its contract. Assumes nothing.
-use Rattle.chip.specs.Steps.{slotByte}
-use Rattle.bank.proofs.Parts.{part-is}
-use Rattle.bank.specs.Work.{backMask}
-use Rattle.bank.specs.Work.{inSlot, loaded}
-use Rattle.layout.specs.Memory.{address}
-use lib.ListN.{length, getD, take, drop, length-take, length-drop}
-use denote.Ref.{now}
+use mathlib.Core.Path.{_∙_}
 use native.Mathlib.Omega.{arith}
-use Prim.Native.Nat.{ℕ, _+_, _-_, _*_, _<_, _≤_}
-use mathlib.Core.List.{List}
-use mathlib.Core.Path.{_≡_, refl, sym, ap, ap₂, _∙_}
+use lib.ListN.{length-take, length-drop}
+use denote.Ref.{now}
 use borrow.Author.Needs.{needs}
+use Rattle.bank.specs.Work.{backMask}
+use Rattle.bank.proofs.Parts.{part-is}
+use Rattle.chip.specs.Steps.{slotByte}
 use Rattle.paging.proofs.blocks.write_slot.Statement.{statement}
 use Rattle.paging.proofs.blocks.write_slot.Tie as tie
 

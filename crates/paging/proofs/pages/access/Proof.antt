@@ -1,25 +1,21 @@
 -- `paging::pages::access` meets its contract. Assumes nothing.
-use Rattle.steps.proofs.Changes.{further, counts, pages-in}
-use Rattle.steps.proofs.Owns.{outside, on-open, none-applies, refused, done-answer, done-block}
-use Rattle.steps.proofs.Rows.{row-access}
-use Rattle.stored.proofs.Forms.{passed, failed, equal, unequal}
-use Rattle.stored.proofs.Held.{held-of, held-page}
-use Rattle.stored.specs.Block.{decodeControl}
-use Rattle.chip.proofs.Accepted.{page-range}
+use mathlib.Core.Path.{refl, ap, _∙_}
+use native.Mathlib.Omega.{arith}
+use denote.Ref.{now}
+use borrow.Author.Needs.{needs}
+use Rattle.layout.proofs.Numbers.{and-left}
 use Rattle.chip.specs.Refusals.{badBits, onOpen, onClosed}
 use Rattle.chip.specs.Answers.{refusalOf, answer}
 use Rattle.chip.specs.Steps.{control-after, pixels-after}
-use Rattle.chip.specs.Operations.{access, inRange, allZero}
+use Rattle.chip.specs.Operations.{access, inRange}
 use Rattle.chip.specs.State.{closed, isClosed}
-use Rattle.layout.proofs.Numbers.{and-left}
-use lib.Dec.{lit<, ltb}
-use denote.Ref.{now}
-use native.Mathlib.Omega.{arith}
-use Prim.Native.Nat.{ℕ, _<_}
-use mathlib.Core.List.{List, [], _∷_}
-use mathlib.Core.Bool.{_&&_}
-use mathlib.Core.Path.{_≡_, refl, sym, ap, _∙_}
-use borrow.Author.Needs.{needs}
+use Rattle.chip.proofs.Accepted.{page-range}
+use Rattle.stored.specs.Block.{decodeControl}
+use Rattle.stored.proofs.Forms.{passed, failed, equal, unequal}
+use Rattle.stored.proofs.Held.{held-of, held-page}
+use Rattle.steps.proofs.Changes.{further, counts, pages-in}
+use Rattle.steps.proofs.Owns.{outside, on-open, none-applies, refused, done-answer, done-block}
+use Rattle.steps.proofs.Rows.{row-access}
 use Rattle.paging.proofs.pages.access.Statement.{statement}
 use Rattle.paging.proofs.pages.access.Tie as tie
 

@@ -1,28 +1,24 @@
 -- `paging::pages::duplicate` meets its contract. Assumes nothing.
-use Rattle.bank.specs.Work.{copied}
+use mathlib.Core.Path.{ap₂, refl, ap, _∙_}
+use Prim.Native.Nat.{ℕ}
+use native.Mathlib.Omega.{arith}
+use denote.Ref.{now}
+use borrow.Author.Needs.{needs}
 use Rattle.layout.specs.Memory.{place}
-use mathlib.Core.Path.{ap₂}
-use Rattle.steps.proofs.Changes.{further, counts, pages-in, page-below}
-use Rattle.steps.proofs.Owns.{outside, on-closed, none-applies, refused, done-answer, done-block, done-memory}
-use Rattle.steps.proofs.Rows.{row-duplicate}
-use Rattle.stored.proofs.Forms.{passed, failed, equal, unequal}
-use Rattle.stored.proofs.Held.{held-of, held-page}
-use Rattle.stored.specs.Block.{decodeControl}
-use Rattle.chip.proofs.Accepted.{page-range}
+use Rattle.layout.proofs.Numbers.{and-left}
+use Rattle.bank.specs.Work.{copied}
 use Rattle.chip.specs.Refusals.{badBits, onOpen, onClosed}
 use Rattle.chip.specs.Answers.{refusalOf, answer}
 use Rattle.chip.specs.Steps.{control-after, pixels-after, memory-after}
-use Rattle.chip.specs.Operations.{duplicate, inRange, allZero}
+use Rattle.chip.specs.Operations.{duplicate, inRange}
 use Rattle.chip.specs.State.{closed, isClosed}
-use Rattle.layout.proofs.Numbers.{and-left}
-use lib.Dec.{lit<, ltb}
-use denote.Ref.{now}
-use native.Mathlib.Omega.{arith}
-use Prim.Native.Nat.{ℕ, _<_}
-use mathlib.Core.List.{List, [], _∷_}
-use mathlib.Core.Bool.{_&&_}
-use mathlib.Core.Path.{_≡_, refl, sym, ap, _∙_}
-use borrow.Author.Needs.{needs}
+use Rattle.chip.proofs.Accepted.{page-range}
+use Rattle.stored.specs.Block.{decodeControl}
+use Rattle.stored.proofs.Forms.{passed, failed, equal, unequal}
+use Rattle.stored.proofs.Held.{held-of, held-page}
+use Rattle.steps.proofs.Changes.{further, counts, pages-in, page-below}
+use Rattle.steps.proofs.Owns.{outside, on-closed, none-applies, refused, done-answer, done-block, done-memory}
+use Rattle.steps.proofs.Rows.{row-duplicate}
 use Rattle.paging.proofs.pages.duplicate.Statement.{statement}
 use Rattle.paging.proofs.pages.duplicate.Tie as tie
 

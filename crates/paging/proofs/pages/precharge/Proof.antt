@@ -1,24 +1,22 @@
 -- `paging::pages::precharge` meets its contract. Assumes nothing.
-use Rattle.steps.proofs.Changes.{further, counts}
-use Rattle.steps.proofs.Owns.{outside, none-applies, refused, done-answer, done-block}
-use Rattle.steps.proofs.Rows.{row-precharge}
-use Rattle.stored.proofs.Forms.{passed, failed}
-use Rattle.stored.proofs.Held.{held-of, held-page}
-use Rattle.stored.specs.Block.{decodeControl}
+use mathlib.Core.Path.{refl, ap, _∙_}
+use native.Mathlib.Omega.{arith}
+use lib.Dec.{lit<}
+use denote.Ref.{now}
+use borrow.Author.Tests.{ltb-true}
+use borrow.Author.Needs.{needs}
+use Rattle.layout.proofs.Numbers.{and-left}
 use Rattle.chip.specs.Refusals.{badBits, onOpen, onClosed}
 use Rattle.chip.specs.Answers.{refusalOf, answer}
 use Rattle.chip.specs.Steps.{control-after, pixels-after}
 use Rattle.chip.specs.Operations.{precharge, inRange}
 use Rattle.chip.specs.State.{closed}
-use borrow.Author.Tests.{ltb-true}
-use Rattle.layout.proofs.Numbers.{and-left}
-use lib.Dec.{lit<}
-use denote.Ref.{now}
-use native.Mathlib.Omega.{arith}
-use Prim.Native.Nat.{ℕ, _<_}
-use mathlib.Core.List.{List, [], _∷_}
-use mathlib.Core.Path.{_≡_, refl, sym, ap, _∙_}
-use borrow.Author.Needs.{needs}
+use Rattle.stored.specs.Block.{decodeControl}
+use Rattle.stored.proofs.Forms.{passed, failed}
+use Rattle.stored.proofs.Held.{held-of, held-page}
+use Rattle.steps.proofs.Changes.{further, counts}
+use Rattle.steps.proofs.Owns.{outside, none-applies, refused, done-answer, done-block}
+use Rattle.steps.proofs.Rows.{row-precharge}
 use Rattle.paging.proofs.pages.precharge.Statement.{statement}
 use Rattle.paging.proofs.pages.precharge.Tie as tie
 

@@ -1,7 +1,7 @@
 -- `steps::operands::four_zero` meets its contract. Assumes nothing.
 use lib.Dec.{eqb}
-use Rattle.steps.proofs.Zeros.{four}
 use Rattle.chip.specs.Operations.{allZero}
+use Rattle.steps.proofs.Zeros.{four}
 use Rattle.steps.proofs.operands.four_zero.Statement.{statement}
 use Rattle.steps.proofs.operands.four_zero.Tie as tie
 

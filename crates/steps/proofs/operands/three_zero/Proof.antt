@@ -1,7 +1,7 @@
 -- `steps::operands::three_zero` meets its contract. Assumes nothing.
 use lib.Dec.{eqb}
-use Rattle.steps.proofs.Zeros.{three}
 use Rattle.chip.specs.Operations.{allZero}
+use Rattle.steps.proofs.Zeros.{three}
 use Rattle.steps.proofs.operands.three_zero.Statement.{statement}
 use Rattle.steps.proofs.operands.three_zero.Tie as tie
 

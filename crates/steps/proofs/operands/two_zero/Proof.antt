@@ -1,7 +1,7 @@
 -- `steps::operands::two_zero` meets its contract. Assumes nothing.
 use lib.Dec.{eqb}
-use Rattle.steps.proofs.Zeros.{two}
 use Rattle.chip.specs.Operations.{allZero}
+use Rattle.steps.proofs.Zeros.{two}
 use Rattle.steps.proofs.operands.two_zero.Statement.{statement}
 use Rattle.steps.proofs.operands.two_zero.Tie as tie
 

@@ -1,10 +1,10 @@
 -- `stored::fields::flags` meets its contract: picking in bit 0, hit in bit 1. Assumes nothing.
-use Rattle.bits.specs.Bits.{digit}
-use lib.Dec.{lit≤}
 use mathlib.Core.Bool.{Bool, true, false}
-use native.Mathlib.Omega.{arith}
 use Prim.Native.Nat.{_≤_}
+use native.Mathlib.Omega.{arith}
+use lib.Dec.{lit≤}
 use borrow.Author.Needs.{needs}
+use Rattle.bits.specs.Bits.{digit}
 use Rattle.stored.proofs.fields.flags.Statement.{statement}
 use Rattle.stored.proofs.fields.flags.Tie as tie
 

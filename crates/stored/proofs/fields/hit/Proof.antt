@@ -1,6 +1,6 @@
 -- `stored::fields::hit` meets its contract: the field, where it lies. Assumes nothing.
-use Rattle.stored.specs.Block.{decodeControl}
 use borrow.Author.Needs.{needs}
+use Rattle.stored.specs.Block.{decodeControl}
 use Rattle.stored.proofs.fields.hit.Statement.{statement}
 use Rattle.stored.proofs.fields.hit.Tie as tie
 

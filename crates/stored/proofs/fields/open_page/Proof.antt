@@ -1,9 +1,9 @@
 -- `stored::fields::open_page` meets its contract: one of the four half words. Assumes nothing.
-use Rattle.stored.proofs.Places.{halves-at}
-use Rattle.stored.specs.Block.{decodeControl}
-use Rattle.chip.specs.State.{openPage}
-use mathlib.Core.Path.{_≡_, refl, sym, ap, _∙_}
+use mathlib.Core.Path.{sym, _∙_}
 use borrow.Author.Needs.{needs}
+use Rattle.chip.specs.State.{openPage}
+use Rattle.stored.specs.Block.{decodeControl}
+use Rattle.stored.proofs.Places.{halves-at}
 use Rattle.stored.proofs.fields.open_page.Statement.{statement}
 use Rattle.stored.proofs.fields.open_page.Tie as tie
 

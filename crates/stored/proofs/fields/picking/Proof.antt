@@ -1,6 +1,6 @@
 -- `stored::fields::picking` meets its contract: the field, where it lies. Assumes nothing.
-use Rattle.stored.specs.Block.{decodeControl}
 use borrow.Author.Needs.{needs}
+use Rattle.stored.specs.Block.{decodeControl}
 use Rattle.stored.proofs.fields.picking.Statement.{statement}
 use Rattle.stored.proofs.fields.picking.Tie as tie
 

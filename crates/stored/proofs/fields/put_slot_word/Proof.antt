@@ -1,11 +1,11 @@
 -- `stored::fields::put_slot_word` meets its contract: a word of the pixels, which start at 92. Assumes nothing.
-use Rattle.bank.specs.Words.{putWord}
-use denote.Ref.{now}
+use mathlib.Core.Path.{_≡_, ap, _∙_}
+use Prim.Native.Nat.{ℕ, _+_, _*_}
 use native.Mathlib.Omega.{arith}
-use Prim.Native.Nat.{ℕ, _+_, _-_, _*_, _<_, _≤_}
-use Rattle.bank.specs.Work.{inSlot}
-use mathlib.Core.Path.{_≡_, refl, sym, ap, _∙_}
+use denote.Ref.{now}
 use borrow.Author.Needs.{needs}
+use Rattle.bank.specs.Words.{putWord}
+use Rattle.bank.specs.Work.{inSlot}
 use Rattle.stored.proofs.fields.put_slot_word.Statement.{statement}
 use Rattle.stored.proofs.fields.put_slot_word.Tie as tie
 

@@ -1,12 +1,12 @@
 -- `stored::fields::register` meets its contract: one of the seven words. Assumes nothing.
-use Rattle.stored.proofs.Places.{words-at}
-use Rattle.stored.specs.Block.{decodeControl}
-use Rattle.bank.specs.Words.{wordAt}
-use Rattle.pixel.specs.Registers.{register}
+use mathlib.Core.Path.{_≡_, sym, ap, _∙_}
+use Prim.Native.Nat.{_+_, _-_, _*_}
 use native.Mathlib.Omega.{arith}
-use Prim.Native.Nat.{ℕ, _+_, _-_, _*_, _<_, _≤_}
-use mathlib.Core.Path.{_≡_, refl, sym, ap, _∙_}
 use borrow.Author.Needs.{needs}
+use Rattle.pixel.specs.Registers.{register}
+use Rattle.bank.specs.Words.{wordAt}
+use Rattle.stored.specs.Block.{decodeControl}
+use Rattle.stored.proofs.Places.{words-at}
 use Rattle.stored.proofs.fields.register.Statement.{statement}
 use Rattle.stored.proofs.fields.register.Tie as tie
 

@@ -1,6 +1,6 @@
 -- `stored::fields::registers` meets its contract: the seven words, where they lie. Assumes nothing.
-use Rattle.stored.specs.Block.{wordsAt, decodeControl}
 use borrow.Author.Needs.{needs}
+use Rattle.stored.specs.Block.{wordsAt, decodeControl}
 use Rattle.stored.proofs.fields.registers.Statement.{statement}
 use Rattle.stored.proofs.fields.registers.Tie as tie
 

@@ -1,12 +1,12 @@
 -- `stored::fields::slot_word` meets its contract: a word of the pixels, which start at 92. Assumes nothing.
-use Rattle.bank.specs.Words.{wordAt}
-use lib.ListN.{drop}
+use mathlib.Core.Path.{_≡_, sym, ap, _∙_}
+use Prim.Native.Nat.{_+_, _*_}
 use native.Mathlib.Omega.{arith}
-use Prim.Native.Nat.{ℕ, _+_, _-_, _*_, _<_, _≤_}
+use lib.ListN.{drop}
+use borrow.Author.Needs.{needs}
+use Rattle.bank.specs.Words.{wordAt}
 use Rattle.bank.proofs.Words.{word-in-slot, word-drop}
 use Rattle.chip.specs.Steps.{slotByte}
-use mathlib.Core.Path.{_≡_, refl, sym, ap, _∙_}
-use borrow.Author.Needs.{needs}
 use Rattle.stored.proofs.fields.slot_word.Statement.{statement}
 use Rattle.stored.proofs.fields.slot_word.Tie as tie
 

@@ -1,9 +1,9 @@
 -- `stored::fields::tag` meets its contract: one of the eight words. Assumes nothing.
-use Rattle.stored.proofs.Places.{words-at}
-use Rattle.stored.specs.Block.{decodeControl}
-use Rattle.chip.specs.Steps.{tagOf}
-use mathlib.Core.Path.{_≡_, refl, sym, ap, _∙_}
+use mathlib.Core.Path.{sym, _∙_}
 use borrow.Author.Needs.{needs}
+use Rattle.chip.specs.Steps.{tagOf}
+use Rattle.stored.specs.Block.{decodeControl}
+use Rattle.stored.proofs.Places.{words-at}
 use Rattle.stored.proofs.fields.tag.Statement.{statement}
 use Rattle.stored.proofs.fields.tag.Tie as tie
 

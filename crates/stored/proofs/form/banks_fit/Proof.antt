@@ -1,9 +1,9 @@
 -- `stored::form::banks_fit` meets its contract: each of the four open pages is tested. Assumes nothing.
-use Rattle.stored.proofs.Forms.{passed, failed}
-use Rattle.chip.specs.State.{pageFits}
-use Rattle.bits.specs.Bits.{every}
-use mathlib.Core.Path.{_≡_, refl, sym, ap, ap₂, _∙_}
+use mathlib.Core.Path.{sym, ap₂, _∙_}
 use borrow.Author.Needs.{needs}
+use Rattle.bits.specs.Bits.{every}
+use Rattle.chip.specs.State.{pageFits}
+use Rattle.stored.proofs.Forms.{passed, failed}
 use Rattle.stored.proofs.form.banks_fit.Statement.{statement}
 use Rattle.stored.proofs.form.banks_fit.Tie as tie
 

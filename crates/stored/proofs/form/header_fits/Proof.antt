@@ -1,14 +1,14 @@
 -- `stored::form::header_fits` meets its contract: a pair of fields is one word. Assumes nothing.
-use Prim.Native.Nat.{ℕ, _+_, _-_, _*_, _<_, _≤_}
-use Rattle.stored.proofs.Forms.{header-test, equal, unequal}
-use Rattle.stored.specs.Block.{halvesAt, header, same}
-use Rattle.bank.specs.Words.{halfAt, wordAt}
+use mathlib.Core.Bool.{_&&_}
+use mathlib.Core.Path.{_≡_, sym, ap, _∙_}
+use Prim.Native.Nat.{ℕ}
+use native.Mathlib.Omega.{arith}
 use lib.Dec.{eqb}
 use denote.Ref.{now}
-use mathlib.Core.Bool.{Bool, true, false, _&&_}
-use native.Mathlib.Omega.{arith}
-use mathlib.Core.Path.{_≡_, refl, sym, ap, _∙_}
 use borrow.Author.Needs.{needs}
+use Rattle.bank.specs.Words.{halfAt, wordAt}
+use Rattle.stored.specs.Block.{halvesAt, header, same}
+use Rattle.stored.proofs.Forms.{header-test, equal, unequal}
 use Rattle.stored.proofs.form.header_fits.Statement.{statement}
 use Rattle.stored.proofs.form.header_fits.Tie as tie
 

@@ -1,18 +1,18 @@
 -- `stored::form::registers_fit` meets its contract: registers 1 to 4 hold any bits. Assumes nothing.
-use Rattle.chip.proofs.Forms.{register-test}
-use Rattle.stored.proofs.Forms.{passed, failed}
-use Rattle.stored.proofs.Places.{words-lt}
-use Rattle.stored.specs.Block.{wordsAt, decodeControl}
-use Rattle.chip.specs.State.{storable}
-use Rattle.pixel.specs.Registers.{register}
-use Rattle.bits.specs.Bits.{every, within}
+use mathlib.Core.Bool.{_&&_}
+use mathlib.Core.Path.{_≡_, sym, ap, _∙_}
+use Prim.Native.Nat.{ℕ}
+use native.Mathlib.Omega.{arith}
 use lib.ListN.{getD}
 use denote.Ref.{now}
-use mathlib.Core.Bool.{_&&_}
-use native.Mathlib.Omega.{arith}
-use Prim.Native.Nat.{ℕ, _+_, _-_, _*_, _<_, _≤_}
-use mathlib.Core.Path.{_≡_, refl, sym, ap, ap₂, _∙_}
 use borrow.Author.Needs.{needs}
+use Rattle.bits.specs.Bits.{every, within}
+use Rattle.pixel.specs.Registers.{register}
+use Rattle.chip.specs.State.{storable}
+use Rattle.chip.proofs.Forms.{register-test}
+use Rattle.stored.specs.Block.{wordsAt, decodeControl}
+use Rattle.stored.proofs.Forms.{passed, failed}
+use Rattle.stored.proofs.Places.{words-lt}
 use Rattle.stored.proofs.form.registers_fit.Statement.{statement}
 use Rattle.stored.proofs.form.registers_fit.Tie as tie
 

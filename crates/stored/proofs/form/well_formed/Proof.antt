@@ -1,19 +1,16 @@
 -- `stored::form::well_formed` meets its contract: the tests of the definition, in another order. Assumes nothing.
-use Rattle.stored.proofs.Forms.{passed, failed}
-use Rattle.stored.specs.Block.{wellFormedBlock, decodeControl}
-use Rattle.bits.specs.Bits.{within}
-use Rattle.chip.specs.State.{wellFormed}
-use Rattle.bank.specs.Words.{wordAt}
-use Rattle.layout.specs.Numbers.{pagesFit}
-use borrow.Author.Tests.{eq-eqb, ne-eqb}
-use lib.ListN.{length}
-use lib.Dec.{eqb}
 use mathlib.Core.Bool.{and-false, and-true}
+use mathlib.Core.Path.{sym, ap, _∙_}
+use Prim.Native.Nat.{ℕ}
 use denote.Ref.{now}
-use mathlib.Core.Bool.{Bool, true, false, _&&_}
-use Prim.Native.Nat.{ℕ, _+_, _-_, _*_, _<_, _≤_}
-use mathlib.Core.Path.{_≡_, refl, sym, ap, ap₂, _∙_}
+use borrow.Author.Tests.{eq-eqb, ne-eqb}
 use borrow.Author.Needs.{needs}
+use Rattle.bits.specs.Bits.{within}
+use Rattle.layout.specs.Numbers.{pagesFit}
+use Rattle.bank.specs.Words.{wordAt}
+use Rattle.chip.specs.State.{wellFormed}
+use Rattle.stored.specs.Block.{wellFormedBlock}
+use Rattle.stored.proofs.Forms.{passed, failed}
 use Rattle.stored.proofs.form.well_formed.Statement.{statement}
 use Rattle.stored.proofs.form.well_formed.Tie as tie
 

@@ -1,6 +1,6 @@
 -- `stored::whole::banks` meets its contract: the four half words, where they lie. Assumes nothing.
-use Rattle.stored.specs.Block.{halvesAt, decodeControl}
 use borrow.Author.Needs.{needs}
+use Rattle.stored.specs.Block.{halvesAt, decodeControl}
 use Rattle.stored.proofs.whole.banks.Statement.{statement}
 use Rattle.stored.proofs.whole.banks.Tie as tie
 

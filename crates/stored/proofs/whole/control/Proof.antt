@@ -1,6 +1,6 @@
 -- `stored::whole::control` meets its contract: each field, where it lies. Assumes nothing.
-use Rattle.stored.specs.Block.{decodeControl}
 use borrow.Author.Needs.{needs}
+use Rattle.stored.specs.Block.{decodeControl}
 use Rattle.stored.proofs.whole.control.Statement.{statement}
 use Rattle.stored.proofs.whole.control.Tie as tie
 

@@ -1,7 +1,7 @@
 -- `stored::whole::pixels` meets its contract. The loop's invariant: the first i bytes from 92 on are in the array. Assumes nothing.
 use mathlib.Core.Path.{_≡_, refl, sym, ap, ap₂, _∙_}
+use Prim.Native.Nat.{_-_, _≤_, _<_}
 use native.Mathlib.Nat.{zero-add}
-use Prim.Native.Nat.{ℕ, _-_, _≤_, _<_}
 use native.Mathlib.Omega.{arith}
 use lib.ListN.{length, set, take, drop, length-drop}
 use lib.Seq.{sets, length-sets, take-all, getD-drop}

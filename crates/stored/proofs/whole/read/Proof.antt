@@ -1,6 +1,6 @@
 -- `stored::whole::read` meets its contract: both parts, where they lie. Assumes nothing.
-use Rattle.stored.specs.Block.{decode}
 use borrow.Author.Needs.{needs}
+use Rattle.stored.specs.Block.{decode}
 use Rattle.stored.proofs.whole.read.Statement.{statement}
 use Rattle.stored.proofs.whole.read.Tie as tie
 

@@ -1,6 +1,6 @@
 -- `stored::whole::tags` meets its contract: the eight words, where they lie. Assumes nothing.
-use Rattle.stored.specs.Block.{wordsAt, decodeControl}
 use borrow.Author.Needs.{needs}
+use Rattle.stored.specs.Block.{wordsAt, decodeControl}
 use Rattle.stored.proofs.whole.tags.Statement.{statement}
 use Rattle.stored.proofs.whole.tags.Tie as tie
 
