@@ -32,7 +32,7 @@ fn load_slot(s: &mut [u8], memory: &[u8], x: Call)
         x.a as usize,
         page as usize,
         x.b as usize,
-        &mut s[92..],
+        &mut s[fields::PIXELS_AT..],
         x.c as usize,
     );
 }
@@ -52,7 +52,7 @@ fn write_slot(s: &[u8], memory: &mut [u8], x: Call)
         x.a as usize,
         page as usize,
         x.b as usize,
-        &s[92..],
+        &s[fields::PIXELS_AT..],
         x.c as usize,
         tag,
         mask,

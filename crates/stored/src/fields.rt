@@ -1,4 +1,4 @@
-// One field of a state block, read or put. The block has its 348 bytes; the numbers below are document 01's offsets.
+// One field of a state block, read or put, where it lies. The block has its 348 bytes.
 ghost use mathlib.Core.Path.{_≡_};
 ghost use Prim.Native.Nat.{_+_, _*_, _%_, _^_, _<_, _≤_};
 ghost use lib.ListN.{length, drop};
@@ -9,6 +9,29 @@ ghost use Rattle.bank.specs.Work.{inSlot};
 ghost use Rattle.chip.specs.State.{openPage};
 ghost use Rattle.chip.specs.Steps.{tagOf, slotByte};
 ghost use Rattle.stored.specs.Block.{pageAt, registerAt, flagsAt, counterAt, tagAt, pixelsAt, decodeControl};
+
+// Document 01's offsets.
+pub const BANKS_AT: usize = 16;
+
+pub const REGISTERS_AT: usize = 24;
+
+pub const FLAGS_AT: usize = 52;
+
+pub const COUNTER_AT: usize = 56;
+
+pub const TAGS_AT: usize = 60;
+
+pub const PIXELS_AT: usize = 92;
+
+// Numbers of 16 and of 32 bits, and slots, lie so many bytes apart.
+pub const HALF_BYTES: usize = 2;
+
+pub const WORD_BYTES: usize = 4;
+
+const SLOT_BYTES: usize = 32;
+
+// Where a register 0 would lie: they are numbered from 1.
+const REGISTER_0_AT: usize = REGISTERS_AT - WORD_BYTES;
 
 // P, the pages to a bank.
 pub fn pages(s: &[u8]) -> u16
@@ -23,14 +46,14 @@ pub fn open_page(s: &[u8], bank: u32) -> u16
     requires { ⌜ (length (now s) ≡ 348) × (bank < 4) ⌝ }
     ensures { λ r. ⌜ r ≡ openPage (decodeControl (now (s .entry)) .banks) bank ⌝ }
 {
-    bank::half_at(s, 16 + 2 * (bank as usize))
+    bank::half_at(s, BANKS_AT + HALF_BYTES * (bank as usize))
 }
 
 pub fn put_page(s: &mut [u8], bank: u32, page: u16)
     requires { ⌜ (length (now s) ≡ 348) × (bank < 4) ⌝ }
     ensures { λ _. ⌜ now (s .exit) ≡ putHalf (pageAt bank) page (now (s .entry)) ⌝ }
 {
-    bank::put_half(s, 16 + 2 * (bank as usize), page);
+    bank::put_half(s, BANKS_AT + HALF_BYTES * (bank as usize), page);
 }
 
 // A register, by its number 1 to 7.
@@ -38,14 +61,14 @@ pub fn register(s: &[u8], number: u32) -> u32
     requires { ⌜ (length (now s) ≡ 348) × (1 ≤ number) × (number ≤ 7) ⌝ }
     ensures { λ r. ⌜ r ≡ register (decodeControl (now (s .entry)) .registers) number ⌝ }
 {
-    bank::word_at(s, 20 + 4 * (number as usize))
+    bank::word_at(s, REGISTER_0_AT + WORD_BYTES * (number as usize))
 }
 
 pub fn put_register(s: &mut [u8], number: u32, value: u32)
     requires { ⌜ (length (now s) ≡ 348) × (1 ≤ number) × (number ≤ 7) ⌝ }
     ensures { λ _. ⌜ now (s .exit) ≡ putWord (registerAt number) value (now (s .entry)) ⌝ }
 {
-    bank::put_word(s, 20 + 4 * (number as usize), value);
+    bank::put_word(s, REGISTER_0_AT + WORD_BYTES * (number as usize), value);
 }
 
 pub fn registers(s: &[u8]) -> [u32; 7]
@@ -53,13 +76,13 @@ pub fn registers(s: &[u8]) -> [u32; 7]
     ensures { λ r. ⌜ r ≡ decodeControl (now (s .entry)) .registers ⌝ }
 {
     [
-        bank::word_at(s, 24),
-        bank::word_at(s, 28),
-        bank::word_at(s, 32),
-        bank::word_at(s, 36),
-        bank::word_at(s, 40),
-        bank::word_at(s, 44),
-        bank::word_at(s, 48),
+        register(s, 1),
+        register(s, 2),
+        register(s, 3),
+        register(s, 4),
+        register(s, 5),
+        register(s, 6),
+        register(s, 7),
     ]
 }
 
@@ -67,14 +90,14 @@ pub fn picking(s: &[u8]) -> bool
     requires { ⌜ length (now s) ≡ 348 ⌝ }
     ensures { λ r. ⌜ r ≡ decodeControl (now (s .entry)) .picking ⌝ }
 {
-    bits::bit_of(bank::word_at(s, 52), 0)
+    bits::bit_of(bank::word_at(s, FLAGS_AT), 0)
 }
 
 pub fn hit(s: &[u8]) -> bool
     requires { ⌜ length (now s) ≡ 348 ⌝ }
     ensures { λ r. ⌜ r ≡ decodeControl (now (s .entry)) .hit ⌝ }
 {
-    bits::bit_of(bank::word_at(s, 52), 1)
+    bits::bit_of(bank::word_at(s, FLAGS_AT), 1)
 }
 
 // Picking and hit as the flags' bits 0 and 1.
@@ -88,7 +111,7 @@ pub fn put_flags(s: &mut [u8], picking: bool, hit: bool)
     requires { ⌜ length (now s) ≡ 348 ⌝ }
     ensures { λ _. ⌜ now (s .exit) ≡ putWord flagsAt (digit picking + digit hit * 2) (now (s .entry)) ⌝ }
 {
-    bank::put_word(s, 52, flags(picking, hit));
+    bank::put_word(s, FLAGS_AT, flags(picking, hit));
 }
 
 // One call more. The counter wraps: after FFFFFFFFh comes 0.
@@ -96,22 +119,22 @@ pub fn count(s: &mut [u8])
     requires { ⌜ length (now s) ≡ 348 ⌝ }
     ensures { λ _. ⌜ now (s .exit) ≡ putWord counterAt ((wordAt (now (s .entry)) counterAt + 1) % 2 ^ 32) (now (s .entry)) ⌝ }
 {
-    let before = bank::word_at(s, 56);
-    bank::put_word(s, 56, std::num::wrapping_add_u32(before, 1));
+    let before = bank::word_at(s, COUNTER_AT);
+    bank::put_word(s, COUNTER_AT, std::num::wrapping_add_u32(before, 1));
 }
 
 pub fn tag(s: &[u8], slot: u32) -> u32
     requires { ⌜ (length (now s) ≡ 348) × (slot < 8) ⌝ }
     ensures { λ r. ⌜ r ≡ tagOf (decodeControl (now (s .entry))) slot ⌝ }
 {
-    bank::word_at(s, 60 + 4 * (slot as usize))
+    bank::word_at(s, TAGS_AT + WORD_BYTES * (slot as usize))
 }
 
 pub fn put_tag(s: &mut [u8], slot: u32, tag: u32)
     requires { ⌜ (length (now s) ≡ 348) × (slot < 8) ⌝ }
     ensures { λ _. ⌜ now (s .exit) ≡ putWord (tagAt slot) tag (now (s .entry)) ⌝ }
 {
-    bank::put_word(s, 60 + 4 * (slot as usize), tag);
+    bank::put_word(s, TAGS_AT + WORD_BYTES * (slot as usize), tag);
 }
 
 // A word of a slot.
@@ -119,12 +142,19 @@ pub fn slot_word(s: &[u8], slot: u32, word: u32) -> u32
     requires { ⌜ (length (now s) ≡ 348) × (slot < 8) × (word < 8) ⌝ }
     ensures { λ r. ⌜ r ≡ wordIn (slotByte (drop 92 (now (s .entry))) slot) word ⌝ }
 {
-    bank::word_at(s, 92 + (32 * (slot as usize) + 4 * (word as usize)))
+    bank::word_at(
+        s,
+        PIXELS_AT + (SLOT_BYTES * (slot as usize) + WORD_BYTES * (word as usize)),
+    )
 }
 
 pub fn put_slot_word(s: &mut [u8], slot: u32, word: u32, x: u32)
     requires { ⌜ (length (now s) ≡ 348) × (slot < 8) × (word < 8) ⌝ }
     ensures { λ _. ⌜ now (s .exit) ≡ putWord (pixelsAt + inSlot slot (4 * word)) x (now (s .entry)) ⌝ }
 {
-    bank::put_word(s, 92 + (32 * (slot as usize) + 4 * (word as usize)), x);
+    bank::put_word(
+        s,
+        PIXELS_AT + (SLOT_BYTES * (slot as usize) + WORD_BYTES * (word as usize)),
+        x,
+    );
 }

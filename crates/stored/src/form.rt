@@ -80,5 +80,5 @@ pub fn well_formed(s: &[u8]) -> bool
     if !registers_fit(s) {
         return false;
     }
-    bits::within(bank::word_at(s, 52), 3)
+    bits::within(bank::word_at(s, fields::FLAGS_AT), 3)
 }

@@ -15,7 +15,7 @@ fn put_halves(s: &mut [u8], at: usize, xs: &[u16])
 {
     let mut i: usize = 0;
     while i < xs.len() {
-        bank::put_half(s, at + 2 * i, xs[i]);
+        bank::put_half(s, at + fields::HALF_BYTES * i, xs[i]);
         i += 1;
     }
 }
@@ -27,7 +27,7 @@ fn put_words(s: &mut [u8], at: usize, xs: &[u32])
 {
     let mut i: usize = 0;
     while i < xs.len() {
-        bank::put_word(s, at + 4 * i, xs[i]);
+        bank::put_word(s, at + fields::WORD_BYTES * i, xs[i]);
         i += 1;
     }
 }
@@ -55,10 +55,10 @@ fn put_control(s: &mut [u8], control: Control)
     let flags_and_counter = [fields::flags(control.picking, control.hit), control.counter];
     let tags = control.tags;
     put_halves(s, 0, &header);
-    put_halves(s, 16, &banks);
-    put_words(s, 24, &registers);
-    put_words(s, 52, &flags_and_counter);
-    put_words(s, 60, &tags);
+    put_halves(s, fields::BANKS_AT, &banks);
+    put_words(s, fields::REGISTERS_AT, &registers);
+    put_words(s, fields::FLAGS_AT, &flags_and_counter);
+    put_words(s, fields::TAGS_AT, &tags);
 }
 
 // A chip, stored as a block.
@@ -69,7 +69,7 @@ pub fn store(s: &mut [u8], chip: Chip)
     let control = chip.control;
     let pixels = chip.pixels;
     put_control(s, control);
-    put_bytes(s, 92, &pixels);
+    put_bytes(s, fields::PIXELS_AT, &pixels);
 }
 
 fn banks(s: &[u8]) -> [u16; 4]
@@ -77,10 +77,10 @@ fn banks(s: &[u8]) -> [u16; 4]
     ensures { λ r. ⌜ r ≡ decodeControl (now (s .entry)) .banks ⌝ }
 {
     [
-        bank::half_at(s, 16),
-        bank::half_at(s, 18),
-        bank::half_at(s, 20),
-        bank::half_at(s, 22),
+        fields::open_page(s, 0),
+        fields::open_page(s, 1),
+        fields::open_page(s, 2),
+        fields::open_page(s, 3),
     ]
 }
 
@@ -89,14 +89,14 @@ fn tags(s: &[u8]) -> [u32; 8]
     ensures { λ r. ⌜ r ≡ decodeControl (now (s .entry)) .tags ⌝ }
 {
     [
-        bank::word_at(s, 60),
-        bank::word_at(s, 64),
-        bank::word_at(s, 68),
-        bank::word_at(s, 72),
-        bank::word_at(s, 76),
-        bank::word_at(s, 80),
-        bank::word_at(s, 84),
-        bank::word_at(s, 88),
+        fields::tag(s, 0),
+        fields::tag(s, 1),
+        fields::tag(s, 2),
+        fields::tag(s, 3),
+        fields::tag(s, 4),
+        fields::tag(s, 5),
+        fields::tag(s, 6),
+        fields::tag(s, 7),
     ]
 }
 
@@ -107,7 +107,7 @@ fn pixels(s: &[u8]) -> [u8; 256]
     let mut p = [0; 256];
     let mut i: usize = 0;
     while i < 256 {
-        p[i] = s[92 + i];
+        p[i] = s[fields::PIXELS_AT + i];
         i += 1;
     }
     p
@@ -123,7 +123,7 @@ fn control(s: &[u8]) -> Control
         registers: fields::registers(s),
         picking: fields::picking(s),
         hit: fields::hit(s),
-        counter: bank::word_at(s, 56),
+        counter: bank::word_at(s, fields::COUNTER_AT),
         tags: tags(s),
     }
 }

@@ -1,11 +1,12 @@
--- `stored::fields::registers` meets its contract: the seven words, where they lie. Assumes nothing.
+-- `stored::fields::registers` meets its contract: the seven, by their numbers. Assumes nothing.
 use borrow.Author.Needs.{needs}
+use Rattle.pixel.specs.Registers.{register}
 use Rattle.stored.specs.Block.{wordsAt, decodeControl}
 use Rattle.stored.proofs.fields.registers.Statement.{statement}
 use Rattle.stored.proofs.fields.registers.Tie as tie
 
 returns : tie.Need-returns
-unfolding decodeControl wordsAt
+unfolding register decodeControl wordsAt
 returns c = cc
 
 pub registers-spec : {M : Type 1} → statement M

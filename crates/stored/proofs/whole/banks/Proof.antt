@@ -1,11 +1,12 @@
--- `stored::whole::banks` meets its contract: the four half words, where they lie. Assumes nothing.
+-- `stored::whole::banks` meets its contract: the four open pages. Assumes nothing.
 use borrow.Author.Needs.{needs}
+use Rattle.chip.specs.State.{openPage}
 use Rattle.stored.specs.Block.{halvesAt, decodeControl}
 use Rattle.stored.proofs.whole.banks.Statement.{statement}
 use Rattle.stored.proofs.whole.banks.Tie as tie
 
 returns : tie.Need-returns
-unfolding decodeControl halvesAt
+unfolding openPage decodeControl halvesAt
 returns c = cc
 
 pub banks-spec : {M : Type 1} → statement M
