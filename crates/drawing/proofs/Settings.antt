@@ -1,14 +1,20 @@
 -- Which bits a register's write may have, what the action bits do, and a register's write as puts. Assumes nothing.
 use mathlib.Core.Path.{_≡_, refl}
-use mathlib.Core.Bool.{Bool, false}
+use mathlib.Core.Bool.{Bool, true, false, _&&_}
 use Prim.Native.Nat.{ℕ, zero, suc, _-_, _/_, _%_, _^_, _<_, _≤_}
 use native.Mathlib.Omega.{arith}
-use lib.Dec.{eqb}
+use lib.Dec.{eqb, leb}
 use lib.ListN.{getD}
+use borrow.Author.Tests.{leb-true}
+use Rattle.layout.proofs.Numbers.{and-left, and-right}
 use Rattle.chip.specs.declared.Control.{Control}
 use Rattle.chip.specs.State.{writable}
 use Rattle.chip.specs.Steps.{switched, withRegister}
 use Rattle.stored.proofs.Held.{holding, flagging}
+
+-- the numbers of registers
+pub register-range : (n : ℕ) → (leb 1 n && leb n 7) ≡ true → (1 ≤ n) × (n ≤ 7)
+register-range n e = (leb-true 1 n (and-left (leb 1 n) (leb n 7) e), leb-true n 7 (and-right (leb 1 n) (leb n 7) e))
 
 -- registers 1 to 4: all bits
 pub writable-low : (n : ℕ) → 1 ≤ n → n < 5 → _≡_ {A = ℕ} 0xffff_ffff (getD writable (n - 1) 0)

@@ -1,13 +1,13 @@
 -- What the tests of a well formed block come to, as code makes them. Assumes nothing.
 use mathlib.Core.Path.{_≡_, refl, sym, ap, ap₂, _∙_}
-use mathlib.Core.Bool.{Bool, true, false, not, _&&_}
+use mathlib.Core.Bool.{Bool, true, false, _&&_}
 use mathlib.Core.List.{List}
 use Prim.Native.Nat.{ℕ, _+_, _*_, _^_, _<_}
 use native.Mathlib.Decide.{ℕ-discrete}
 use native.Mathlib.Omega.{arith}
 use lib.Dec.{eqb}
 use lib.ListN.{getD}
-use borrow.Author.Tests.{eq-eqb, ne-eqb, not-true, not-false}
+use borrow.Author.Tests.{eq-eqb, ne-eqb}
 use Rattle.bits.specs.Bits.{joined}
 use Rattle.bank.specs.Words.{halfAt, wordAt}
 use Rattle.bank.proofs.Words.{half-at-lt}
@@ -66,9 +66,3 @@ equal {r} {x} {k} e q = eq-eqb x k (sym e ∙ q)
 
 pub unequal : {r x k : ℕ} → r ≡ x → (r ≡ k → ⊥) → eqb x k ≡ false
 unequal {r} {x} {k} e f = ne-eqb x k (λ q. f (e ∙ q))
-
-pub passed : {r t : Bool} → r ≡ t → not r ≡ false → t ≡ true
-passed {r} {t} e q = sym e ∙ not-false r q
-
-pub failed : {r t : Bool} → r ≡ t → not r ≡ true → t ≡ false
-failed {r} {t} e q = sym e ∙ not-true r q

@@ -1,14 +1,13 @@
 -- `calls::acts::operate` meets its contract. Assumes nothing.
 use mathlib.Core.Logic.{_⊎_, inl, inr}
-use mathlib.Core.Path.{refl, _∙_}
-use Prim.Native.Nat.{ℕ, _^_, _<_, _≤_}
+use mathlib.Core.Path.{refl}
+use Prim.Native.Nat.{ℕ, _<_, _≤_}
 use native.Mathlib.Omega.{arith}
-use lib.ListN.{getD}
 use denote.Ref.{now}
 use borrow.Author.Needs.{needs}
 use Rattle.chip.specs.Steps.{memory-after}
 use Rattle.steps.proofs.Rows.{row-stateful}
-use Rattle.calls.proofs.Wholes.{known, untouched}
+use Rattle.calls.proofs.Wholes.{Ready, beside-memory}
 use Rattle.calls.proofs.acts.operate.Statement.{statement}
 use Rattle.calls.proofs.acts.operate.Tie as tie
 
@@ -23,12 +22,13 @@ other-requires c κs = (search needs, c .before .before .before .before .before 
 returns : tie.Need-returns
 unfolding memory-after
 returns c =
-    let s = now (c .before .before .before .before .before .before .before .before .args .s) in
-    let m = now (c .before .before .before .before .before .before .before .before .args .memory) in
-    let x = c .before .before .before .before .before .before .before .before .args .x in
-    let bytes : (a : ℕ) → getD s a 0 < 2 ^ 8 = λ a. omega (arith, c .before .before .before .before .before .before .before .slice-known .given a) in
-    let k = known s m x bytes (c .before .before .before .before .before .before .before .before .pre .1) (c .before .before .before .before .before .before .before .before .pre .2) (omega (arith, c .before .before .before .before .before .if1 .left)) (omega (arith, c .before .before .before .before .if2 .taken)) in
-    (c .before .before .stateful-write .ensures .0 ∙ k .0, c .before .before .stateful-write .ensures .1 m ∙ k .1, untouched s m x _ _ (row-stateful x (omega (arith, c .before .before .before .before .before .if1 .left)) (omega (arith, c .before .before .before .before .if2 .taken))) refl ∙ k .2)
+    let p = c .before .before .before .before .before .before .before in
+    let ready : Ready (now (p .before .args .s)) (now (p .before .args .memory))
+    = record { bytes = λ a. omega (arith, p .slice-known .given a); well = p .before .pre .1; sized = p .before .pre .2 } in
+    let low : 10 ≤ p .before .args .x .op = omega (arith, c .before .before .before .before .before .if1 .left) in
+    let high : p .before .args .x .op ≤ 11 = omega (arith, c .before .before .before .before .if2 .taken) in
+    let e = c .before .before .stateful-write .ensures in
+    beside-memory ready (p .before .args .x) (row-stateful _ low high) refl (omega (arith, low)) (omega (arith, high)) (e .0) (e .1 _)
 
 pub operate-spec : {M : Type 1} → statement M
 operate-spec = tie.close (tie.spec (λ c κs. search needs) other-requires (λ c. search needs) returns (λ c. search needs) (λ c. search needs) (λ c. search needs))

@@ -1,13 +1,11 @@
 -- `drawing::registers::read_register` meets its contract. Assumes nothing.
 use mathlib.Core.Bool.{false}
 use mathlib.Core.Path.{refl, ap, _∙_}
-use Prim.Native.Nat.{ℕ}
+use Prim.Native.Nat.{_≤_, ℕ}
 use native.Mathlib.Omega.{arith}
-use lib.Dec.{leb}
 use denote.Ref.{now}
-use borrow.Author.Tests.{leb-true}
 use borrow.Author.Needs.{needs}
-use Rattle.layout.proofs.Numbers.{and-left, and-right}
+use Rattle.layout.proofs.Numbers.{and-left, test-holds, test-fails}
 use Rattle.chip.specs.declared.Answer.the-variants.{Done}
 use Rattle.chip.specs.Operations.{readRegister, inRange}
 use Rattle.chip.specs.Steps.{control-after, pixels-after}
@@ -15,37 +13,45 @@ use Rattle.chip.specs.Refusals.{badBits, onOpen, onClosed}
 use Rattle.chip.specs.Answers.{refusalOf, answer}
 use Rattle.stored.specs.Block.{decodeControl}
 use Rattle.stored.proofs.Held.{held-of}
-use Rattle.stored.proofs.Forms.{passed, failed}
 use Rattle.steps.proofs.Rows.{row-read-register}
 use Rattle.steps.proofs.Changes.{counts}
 use Rattle.steps.proofs.Owns.{outside, none-applies, refused, done-answer, done-block}
+use Rattle.drawing.proofs.Settings.{register-range}
 use Rattle.drawing.proofs.registers.read_register.Statement.{statement}
 use Rattle.drawing.proofs.registers.read_register.Tie as tie
+
+-- the function's entry, from past the test of the operands
+abbrev entry : tie.Else1 → tie.Start
+entry c = c .before .before .before
+
+-- past that test there is such a register
+range : (c : tie.Else1) → (1 ≤ entry c .args .x .a) × (entry c .args .x .a ≤ 7)
+range c = register-range _ (and-left _ _ (test-holds (c .before .number-fits .ensures) (c .if1 .left)))
 
 returns : tie.Need-returns
 unfolding inRange refusalOf
 returns c =
-    let s = now (c .before .before .before .args .s) in
-    let x = c .before .before .before .args .x in
-    let res = refused s x (readRegister (x .a)) _ (row-read-register x (c .before .before .before .pre .2)) (outside (decodeControl s) (readRegister (x .a)) _ (failed (c .before .number-fits .ensures) (c .if1 .taken))) in
+    let start = c .before .before .before in
+    let s = now (start .args .s) in
+    let x = start .args .x in
+    let res = refused s x (readRegister (x .a)) _ (row-read-register x (start .pre .2)) (outside (decodeControl s) (readRegister (x .a)) _ (test-fails (c .before .number-fits .ensures) (c .if1 .taken))) in
     (res .0, res .1)
 
 register-requires : tie.Need-register-requires
-register-requires c κs =
-    let s = now (c .before .before .before .before .args .s) in
-    let x = c .before .before .before .before .args .x in
-    let range = and-left _ _ (passed (c .before .before .number-fits .ensures) (c .before .if1 .left)) in
-    (c .before .before .before .before .pre .0, leb-true 1 (x .a) (and-left (leb 1 (x .a)) (leb (x .a) 7) range), leb-true (x .a) 7 (and-right (leb 1 (x .a)) (leb (x .a) 7) range))
+register-requires c κs = (entry (c .before) .pre .0, range (c .before) .0, range (c .before) .1)
 
 returns-2 : tie.Need-returns-2
 unfolding inRange badBits onOpen onClosed answer control-after pixels-after
 returns-2 c =
-    let s = now (c .before .before .before .before .before .before .before .before .before .args .s) in
-    let x = c .before .before .before .before .before .before .before .before .before .args .x in
-    let none = none-applies (decodeControl s) (readRegister (x .a)) _ (passed (c .before .before .before .before .before .before .before .number-fits .ensures) (c .before .before .before .before .before .before .if1 .left)) refl refl refl in
-    let r = row-read-register x (c .before .before .before .before .before .before .before .before .before .pre .2) in (
+    let past = c .before .before .before .before .before .before in
+    let s = now (entry past .args .s) in
+    let x = entry past .args .x in
+    let fits = test-holds (past .before .number-fits .ensures) (past .if1 .left) in
+    let none = none-applies (decodeControl s) (readRegister (x .a)) _ fits refl refl refl in
+    let r = row-read-register x (entry past .pre .2) in
+    let held = held-of s (λ a. omega (arith, past .before .before .slice-known .given a)) (entry past .pre .1) in (
       c .before .before .done .ensures .0 ∙ ap (λ (v : ℕ). Done v false false) (c .before .before .before .before .register .ensures) ∙ done-answer s x (readRegister (x .a)) _ r none,
-      λ memory. c .before .before .done .ensures .1 ∙ counts (held-of s (λ a. omega (arith, c .before .before .before .before .before .before .before .before .slice-known .given a)) (c .before .before .before .before .before .before .before .before .before .pre .1)) ∙ done-block s x (readRegister (x .a)) _ r none memory,
+      λ memory. c .before .before .done .ensures .1 ∙ counts held ∙ done-block s x (readRegister (x .a)) _ r none memory,
     )
 
 pub read-register-spec : {M : Type 1} → statement M

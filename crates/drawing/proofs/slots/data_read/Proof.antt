@@ -1,11 +1,11 @@
 -- `drawing::slots::data_read` meets its contract. Assumes nothing.
 use mathlib.Core.Bool.{false}
 use mathlib.Core.Path.{refl, ap, _∙_}
-use Prim.Native.Nat.{ℕ}
+use Prim.Native.Nat.{_<_, ℕ}
 use native.Mathlib.Omega.{arith}
 use denote.Ref.{now}
 use borrow.Author.Needs.{needs}
-use Rattle.layout.proofs.Numbers.{and-left}
+use Rattle.layout.proofs.Numbers.{and-left, test-holds, test-fails}
 use Rattle.chip.specs.declared.Answer.the-variants.{Done}
 use Rattle.chip.specs.Steps.{oldWord, control-after, pixels-after}
 use Rattle.chip.specs.Operations.{dataRead, inRange}
@@ -15,37 +15,44 @@ use Rattle.chip.specs.Answers.{refusalOf, answer}
 use Rattle.chip.proofs.Accepted.{word-range}
 use Rattle.stored.specs.Block.{decodeControl}
 use Rattle.stored.proofs.Held.{held-of}
-use Rattle.stored.proofs.Forms.{passed, failed}
 use Rattle.steps.proofs.Rows.{row-data-read}
 use Rattle.steps.proofs.Changes.{counts}
 use Rattle.steps.proofs.Owns.{outside, none-applies, refused, done-answer, done-block}
 use Rattle.drawing.proofs.slots.data_read.Statement.{statement}
 use Rattle.drawing.proofs.slots.data_read.Tie as tie
 
+-- the function's entry, from past the test of the operands
+abbrev entry : tie.Else1 → tie.Start
+entry c = c .before .before .before
+
+-- past that test slot and word are in range
+range : (c : tie.Else1) → (entry c .args .x .a < 8) × (entry c .args .x .b < 8)
+range c = word-range 8 0 _ _ (and-left _ _ (test-holds (c .before .word-fits .ensures) (c .if1 .left)))
+
 returns : tie.Need-returns
 unfolding inRange slots refusalOf
 returns c =
-    let s = now (c .before .before .before .args .s) in
-    let x = c .before .before .before .args .x in
-    let res = refused s x (dataRead (x .a) (x .b)) _ (row-data-read x (c .before .before .before .pre .2)) (outside (decodeControl s) (dataRead (x .a) (x .b)) _ (failed (c .before .word-fits .ensures) (c .if1 .taken))) in
+    let start = c .before .before .before in
+    let s = now (start .args .s) in
+    let x = start .args .x in
+    let res = refused s x (dataRead (x .a) (x .b)) _ (row-data-read x (start .pre .2)) (outside (decodeControl s) (dataRead (x .a) (x .b)) _ (test-fails (c .before .word-fits .ensures) (c .if1 .taken))) in
     (res .0, res .1)
 
 slot-word-requires : tie.Need-slot-word-requires
-slot-word-requires c κs =
-    let s = now (c .before .before .before .before .args .s) in
-    let x = c .before .before .before .before .args .x in
-    let range = word-range 8 0 (x .a) (x .b) (and-left _ _ (passed (c .before .before .word-fits .ensures) (c .before .if1 .left))) in
-    (c .before .before .before .before .pre .0, range .0, range .1)
+slot-word-requires c κs = (entry (c .before) .pre .0, range (c .before) .0, range (c .before) .1)
 
 returns-2 : tie.Need-returns-2
 unfolding inRange slots badBits onOpen onClosed answer oldWord control-after pixels-after
 returns-2 c =
-    let s = now (c .before .before .before .before .before .before .before .before .before .args .s) in
-    let x = c .before .before .before .before .before .before .before .before .before .args .x in
-    let none = none-applies (decodeControl s) (dataRead (x .a) (x .b)) _ (passed (c .before .before .before .before .before .before .before .word-fits .ensures) (c .before .before .before .before .before .before .if1 .left)) refl refl refl in
-    let r = row-data-read x (c .before .before .before .before .before .before .before .before .before .pre .2) in (
+    let past = c .before .before .before .before .before .before in
+    let s = now (entry past .args .s) in
+    let x = entry past .args .x in
+    let fits = test-holds (past .before .word-fits .ensures) (past .if1 .left) in
+    let none = none-applies (decodeControl s) (dataRead (x .a) (x .b)) _ fits refl refl refl in
+    let r = row-data-read x (entry past .pre .2) in
+    let held = held-of s (λ a. omega (arith, past .before .before .slice-known .given a)) (entry past .pre .1) in (
       c .before .before .done .ensures .0 ∙ ap (λ (v : ℕ). Done v false false) (c .before .before .before .before .slot-word .ensures) ∙ done-answer s x (dataRead (x .a) (x .b)) _ r none,
-      λ memory. c .before .before .done .ensures .1 ∙ counts (held-of s (λ a. omega (arith, c .before .before .before .before .before .before .before .before .slice-known .given a)) (c .before .before .before .before .before .before .before .before .before .pre .1)) ∙ done-block s x (dataRead (x .a) (x .b)) _ r none memory,
+      λ memory. c .before .before .done .ensures .1 ∙ counts held ∙ done-block s x (dataRead (x .a) (x .b)) _ r none memory,
     )
 
 pub data-read-spec : {M : Type 1} → statement M

@@ -1,7 +1,7 @@
 -- `drawing::slots::write_tag` meets its contract. Assumes nothing.
 use mathlib.Core.Bool.{Bool, true, false, cond}
 use mathlib.Core.Path.{_≡_, refl, ap, _∙_}
-use Prim.Native.Nat.{_^_, ℕ, _<_}
+use Prim.Native.Nat.{_<_, _^_, ℕ}
 use native.Mathlib.Omega.{arith}
 use lib.ListN.{drop}
 use lib.Bits.{or-lt, bitOr}
@@ -9,7 +9,7 @@ use lib.Dec.{eqb}
 use denote.Ref.{now}
 use borrow.Author.Tests.{ltb-true}
 use borrow.Author.Needs.{needs}
-use Rattle.layout.proofs.Numbers.{and-left}
+use Rattle.layout.proofs.Numbers.{and-left, test-holds, test-fails}
 use Rattle.chip.specs.Steps.{withTag, counted, tagOf, control-after, pixels-after}
 use Rattle.chip.specs.Operations.{writeTag, inRange}
 use Rattle.chip.specs.State.{slots}
@@ -17,7 +17,6 @@ use Rattle.chip.specs.Refusals.{badBits, onOpen, onClosed}
 use Rattle.chip.specs.Answers.{refusalOf, answer}
 use Rattle.stored.specs.Block.{encode, decodeControl}
 use Rattle.stored.proofs.Held.{held-of, held-tag}
-use Rattle.stored.proofs.Forms.{passed, failed}
 use Rattle.steps.proofs.Rows.{row-write-tag}
 use Rattle.steps.proofs.Changes.{further, counts}
 use Rattle.steps.proofs.Owns.{outside, none-applies, refused, done-answer, done-block}
@@ -29,38 +28,45 @@ replaced : (replace : Bool) (was given : ℕ) → bitOr (cond replace 0 was) giv
 replaced true was given = refl
 replaced false was given = refl
 
+-- the function's entry, from past the test of the operands
+abbrev entry : tie.Else1 → tie.Start
+entry c = c .before .before .before
+
+-- past that test there is such a slot
+slot-there : (c : tie.Else1) → entry c .args .x .a < 8
+slot-there c = ltb-true (entry c .args .x .a) 8 (and-left _ _ (test-holds (c .before .slot-fits .ensures) (c .if1 .left)))
+
 returns : tie.Need-returns
 unfolding inRange slots refusalOf
 returns c =
-    let s = now (c .before .before .before .args .s) in
-    let x = c .before .before .before .args .x in
-    let res = refused s x (writeTag (eqb (x .op) 12) (x .a) (x .given)) _ (row-write-tag x (c .before .before .before .pre .2) (c .before .before .before .pre .3)) (outside (decodeControl s) (writeTag (eqb (x .op) 12) (x .a) (x .given)) _ (failed (c .before .slot-fits .ensures) (c .if1 .taken))) in
+    let start = c .before .before .before in
+    let s = now (start .args .s) in
+    let x = start .args .x in
+    let res = refused s x (writeTag (eqb (x .op) 12) (x .a) (x .given)) _ (row-write-tag x (start .pre .2) (start .pre .3)) (outside (decodeControl s) (writeTag (eqb (x .op) 12) (x .a) (x .given)) _ (test-fails (c .before .slot-fits .ensures) (c .if1 .taken))) in
     (res .0, res .1)
 
 tag-requires : tie.Need-tag-requires
-tag-requires c κs =
-    let s = now (c .before .before .before .before .before .args .s) in
-    let x = c .before .before .before .before .before .args .x in
-    (c .before .before .before .before .before .pre .0, ltb-true (x .a) 8 (and-left _ _ (passed (c .before .before .before .slot-fits .ensures) (c .before .before .if1 .left))))
+tag-requires c κs = (entry (c .before .before) .pre .0, slot-there (c .before .before))
 
 put-tag-requires : tie.Need-put-tag-requires
-put-tag-requires c κs =
-    let s = now (c .before .before .before .before .before .before .before .before .before .args .s) in
-    let x = c .before .before .before .before .before .before .before .before .before .args .x in
-    (c .before .before .before .before .before .before .before .before .before .pre .0, ltb-true (x .a) 8 (and-left _ _ (passed (c .before .before .before .before .before .before .before .slot-fits .ensures) (c .before .before .before .before .before .before .if1 .left))))
+put-tag-requires c κs = (entry (c .before .before .before .before .before .before) .pre .0, slot-there (c .before .before .before .before .before .before))
 
 returns-2 : tie.Need-returns-2
 unfolding inRange slots badBits onOpen onClosed answer control-after pixels-after
 returns-2 c =
-    let s = now (c .before .before .before .before .before .before .before .before .before .before .before .before .before .before .before .before .args .s) in
-    let x = c .before .before .before .before .before .before .before .before .before .before .before .before .before .before .before .before .args .x in
-    let fits = passed (c .before .before .before .before .before .before .before .before .before .before .before .before .before .before .slot-fits .ensures) (c .before .before .before .before .before .before .before .before .before .before .before .before .before .if1 .left) in
+    let past = c .before .before .before .before .before .before .before .before .before .before .before .before .before in
+    let s = now (entry past .args .s) in
+    let x = entry past .args .x in
+    let fits = test-holds (past .before .slot-fits .ensures) (past .if1 .left) in
     let none = none-applies (decodeControl s) (writeTag (eqb (x .op) 12) (x .a) (x .given)) _ fits refl refl refl in
-    let r = row-write-tag x (c .before .before .before .before .before .before .before .before .before .before .before .before .before .before .before .before .pre .2) (c .before .before .before .before .before .before .before .before .before .before .before .before .before .before .before .before .pre .3) in
-    let tag : bitOr (c .before .before .before .before .before .before .before .before .before .pick .result) (x .given) ≡ cond (eqb (x .op) 12) (x .given) (bitOr (tagOf (decodeControl s) (x .a)) (x .given))
-    = ap (λ (t : ℕ). bitOr t (x .given)) (c .before .before .before .before .before .before .before .before .before .pick .ensures ∙ ap (cond (eqb (x .op) 12) 0) (c .before .before .before .before .before .before .before .before .before .before .tag .ensures)) ∙ replaced (eqb (x .op) 12) (tagOf (decodeControl s) (x .a)) (x .given) in
-    let tag-fits : bitOr (c .before .before .before .before .before .before .before .before .before .pick .result) (x .given) < 2 ^ 32 = or-lt 32 (c .before .before .before .before .before .before .before .before .before .pick .result) (x .given) (search needs) (search needs) in
-    let held = held-tag (held-of s (λ a. omega (arith, c .before .before .before .before .before .before .before .before .before .before .before .before .before .before .before .slice-known .given a)) (c .before .before .before .before .before .before .before .before .before .before .before .before .before .before .before .before .pre .1)) (x .a) (bitOr (c .before .before .before .before .before .before .before .before .before .pick .result) (x .given)) (ltb-true (x .a) 8 (and-left _ _ fits)) tag-fits in (
+    let r = row-write-tag x (entry past .pre .2) (entry past .pre .3) in
+    let picked = c .before .before .before .before .before .before .before .before .before .pick in
+    let was = tagOf (decodeControl s) (x .a) in
+    let tag : bitOr (picked .result) (x .given) ≡ cond (eqb (x .op) 12) (x .given) (bitOr was (x .given))
+    = ap (λ (t : ℕ). bitOr t (x .given)) (picked .ensures ∙ ap (cond (eqb (x .op) 12) 0) (c .before .before .before .before .before .before .before .before .before .before .tag .ensures)) ∙ replaced (eqb (x .op) 12) was (x .given) in
+    let small : bitOr (picked .result) (x .given) < 2 ^ 32 = or-lt 32 (picked .result) (x .given) (search needs) (search needs) in
+    let start = held-of s (λ a. omega (arith, past .before .before .slice-known .given a)) (entry past .pre .1) in
+    let held = held-tag start (x .a) (bitOr (picked .result) (x .given)) (slot-there past) small in (
       c .before .before .done .ensures .0 ∙ done-answer s x (writeTag (eqb (x .op) 12) (x .a) (x .given)) _ r none,
       λ memory. c .before .before .done .ensures .1 ∙ ap further (c .before .before .before .before .before .before .put-tag .ensures) ∙ counts held
           ∙ ap (λ (t : ℕ). encode (record { control = counted (withTag (decodeControl s) (x .a) t); pixels = drop 92 s })) tag

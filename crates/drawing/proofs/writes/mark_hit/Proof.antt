@@ -11,15 +11,19 @@ use Rattle.drawing.proofs.writes.mark_hit.Tie as tie
 returns : tie.Need-returns
 unfolding hitMarked
 returns c =
-    let sets = c .before .before .before .before .before .before .before .before .args .hits in
-    let on : (decodeControl (now (c .before .before .before .before .before .before .before .before .args .s)) .picking && sets) ≡ true = sym (ap (λ (p : Bool). p && sets) (c .before .before .before .before .before .picking .ensures)) ∙ c .before .before .before .before .if1 .taken in
+    let asked = c .before .before .before .before .before in
+    let start = asked .before .before .before in
+    let on : (decodeControl (now (start .args .s)) .picking && start .args .hits) ≡ true
+    = sym (ap (λ (p : Bool). p && start .args .hits) (asked .picking .ensures)) ∙ c .before .before .before .before .if1 .taken in
     c .before .before .put-flags .ensures ∙ rw on
 
 returns-2 : tie.Need-returns-2
 unfolding hitMarked
 returns-2 c =
-    let sets = c .before .before .before .before .args .hits in
-    let off : (decodeControl (now (c .before .before .before .before .args .s)) .picking && sets) ≡ false = sym (ap (λ (p : Bool). p && sets) (c .before .picking .ensures)) ∙ c .if1 .left in
+    let asked = c .before in
+    let start = asked .before .before .before in
+    let off : (decodeControl (now (start .args .s)) .picking && start .args .hits) ≡ false
+    = sym (ap (λ (p : Bool). p && start .args .hits) (asked .picking .ensures)) ∙ c .if1 .left in
     rw off
 
 pub mark-hit-spec : {M : Type 1} → statement M

@@ -16,19 +16,22 @@ use Rattle.paging.proofs.blocks.load_slot.Tie as tie
 
 load-in-requires : tie.Need-load-in-requires
 load-in-requires c κs =
-    let pre = c .before .before .before .before .before .before .before .before .before .before .pre in
-    rw (c .before .before .before .before .before .before .pages .ensures, c .before .before .before .before .open-page .ensures) (pre .1, pre .2, pre .3, pre .4, pre .5, simp (length-take, length-drop) (omega (arith, pre .0, pre .6)))
+    let paged = c .before .before .before .before in
+    let pre = paged .before .before .before .before .before .before .pre in
+    rw (paged .before .before .pages .ensures, paged .open-page .ensures) (pre .1, pre .2, pre .3, pre .4, pre .5, simp (length-take, length-drop) (omega (arith, pre .0, pre .6)))
 
 returns : tie.Need-returns
 unfolding loaded
 returns c =
-    let s = now (c .before .before .before .before .before .before .before .before .before .before .before .before .before .args .s) in
-    let m = now (c .before .before .before .before .before .before .before .before .before .before .before .before .before .args .memory) in
-    let x = c .before .before .before .before .before .before .before .before .before .before .before .before .before .args .x in
+    let paged = c .before .before .before .before .before .before .before in
+    let start = paged .before .before .before .before .before .before in
+    let s = now (start .args .s) in
+    let m = now (start .args .memory) in
+    let x = start .args .x in
     let part = take (length s - 92) (drop 92 s) in
     let filled = c .before .before .load-in .ensures
-    ∙ ap₂ (λ (P page : ℕ). update 32 (inSlot (x .c)) (λ i was. getD m (address P (x .a) page (x .b) i) 0) part) (c .before .before .before .before .before .before .before .before .before .pages .ensures) (c .before .before .before .before .before .before .before .open-page .ensures) in
-    ap (λ (l : List ℕ). putMid 92 (length s - 92) s l) filled ∙ update-lent 32 92 (inSlot (x .c)) _ s (omega (arith, c .before .before .before .before .before .before .before .before .before .before .before .before .before .pre .0))
+    ∙ ap₂ (λ (P page : ℕ). update 32 (inSlot (x .c)) (λ i was. getD m (address P (x .a) page (x .b) i) 0) part) (paged .before .before .pages .ensures) (paged .open-page .ensures) in
+    ap (λ (l : List ℕ). putMid 92 (length s - 92) s l) filled ∙ update-lent 32 92 (inSlot (x .c)) _ s (omega (arith, start .pre .0))
 
 pub load-slot-spec : {M : Type 1} → statement M
 load-slot-spec = tie.close (tie.spec (λ c κs. search needs) (λ c κs. search needs) (λ c. search needs) (λ c. search needs) (λ c. search needs) (λ c. search needs) (λ c. search needs) (λ c. search needs) (λ c. search needs) (λ c. search needs) load-in-requires (λ c. search needs) returns)

@@ -1,12 +1,12 @@
 -- `paging::blocks::write_block` meets its contract. Assumes nothing.
 use mathlib.Core.Bool.{false}
 use mathlib.Core.Path.{refl, ap, _∙_}
-use Prim.Native.Nat.{ℕ}
+use Prim.Native.Nat.{_<_, ℕ}
 use native.Mathlib.Omega.{arith}
 use lib.Dec.{eqb}
 use denote.Ref.{now}
 use borrow.Author.Needs.{needs}
-use Rattle.layout.proofs.Numbers.{and-left}
+use Rattle.layout.proofs.Numbers.{and-left, test-holds, test-fails}
 use Rattle.bank.specs.Work.{tagged}
 use Rattle.chip.specs.declared.Answer.the-variants.{Done}
 use Rattle.chip.specs.Steps.{memory-after, control-after, pixels-after}
@@ -17,64 +17,68 @@ use Rattle.chip.specs.Answers.{refusalOf, answer}
 use Rattle.chip.proofs.Accepted.{block-range}
 use Rattle.stored.specs.Block.{decodeControl}
 use Rattle.stored.proofs.Held.{held-of}
-use Rattle.stored.proofs.Forms.{passed, failed, equal, unequal}
+use Rattle.stored.proofs.Forms.{equal, unequal}
 use Rattle.steps.proofs.Owns.{done-memory, on-closed, outside, none-applies, refused, done-answer, done-block}
 use Rattle.steps.proofs.Changes.{pages-in, page-below, counts}
 use Rattle.steps.proofs.Rows.{row-write-block}
 use Rattle.paging.proofs.blocks.write_block.Statement.{statement}
 use Rattle.paging.proofs.blocks.write_block.Tie as tie
 
+-- the function's entry, from past the test of the operands
+abbrev entry : tie.Else1 → tie.Start
+entry c = c .before .before .before .before
+
+-- past that test bank, block and slot are in range
+range : (c : tie.Else1) → (entry c .args .x .a < 4) × (entry c .args .x .b < 40) × (entry c .args .x .c < 8)
+range c = block-range 8 0 _ _ _ (and-left _ _ (test-holds (c .before .block-fits .ensures) (c .if1 .left)))
+
 returns : tie.Need-returns
 unfolding inRange slots refusalOf
 returns c =
-    let s = now (c .before .before .before .before .args .s) in
-    let x = c .before .before .before .before .args .x in
-    let res = refused s x (writeBlock (eqb (x .op) 5) (x .a) (x .b) (x .c)) _ (row-write-block x (c .before .before .before .before .pre .3) (c .before .before .before .before .pre .4)) (outside (decodeControl s) (writeBlock (eqb (x .op) 5) (x .a) (x .b) (x .c)) _ (failed (c .before .block-fits .ensures) (c .if1 .taken))) in
+    let start = c .before .before .before .before in
+    let s = now (start .args .s) in
+    let x = start .args .x in
+    let res = refused s x (writeBlock (eqb (x .op) 5) (x .a) (x .b) (x .c)) _ (row-write-block x (start .pre .3) (start .pre .4)) (outside (decodeControl s) (writeBlock (eqb (x .op) 5) (x .a) (x .b) (x .c)) _ (test-fails (c .before .block-fits .ensures) (c .if1 .taken))) in
     (res .0, res .1 _, res .2 _)
 
 open-page-requires : tie.Need-open-page-requires
-open-page-requires c κs =
-    let x = c .before .before .before .before .before .args .x in
-    let fits = passed (c .before .before .block-fits .ensures) (c .before .if1 .left) in
-    let range = block-range 8 0 (x .a) (x .b) (x .c) (and-left _ _ fits) in
-    (c .before .before .before .before .before .pre .0, range .0)
+open-page-requires c κs = (entry (c .before) .pre .0, range (c .before) .0)
 
 returns-2 : tie.Need-returns-2
 unfolding inRange slots badBits onOpen onClosed isClosed closed refusalOf
 returns-2 c =
-    let s = now (c .before .before .before .before .before .before .before .args .s) in
-    let x = c .before .before .before .before .before .before .before .args .x in
-    let fits = passed (c .before .before .before .before .block-fits .ensures) (c .before .before .before .if1 .left) in
+    let past = c .before .before .before in
+    let s = now (entry past .args .s) in
+    let x = entry past .args .x in
+    let fits = test-holds (past .before .block-fits .ensures) (past .if1 .left) in
     let shut = equal (c .before .open-page .ensures) (c .if2 .taken) in
-    let res = refused s x (writeBlock (eqb (x .op) 5) (x .a) (x .b) (x .c)) _ (row-write-block x (c .before .before .before .before .before .before .before .pre .3) (c .before .before .before .before .before .before .before .pre .4)) (on-closed (decodeControl s) (writeBlock (eqb (x .op) 5) (x .a) (x .b) (x .c)) _ fits refl refl shut) in
+    let res = refused s x (writeBlock (eqb (x .op) 5) (x .a) (x .b) (x .c)) _ (row-write-block x (entry past .pre .3) (entry past .pre .4)) (on-closed (decodeControl s) (writeBlock (eqb (x .op) 5) (x .a) (x .b) (x .c)) _ fits refl refl shut) in
     (res .0, res .1 _, res .2 _)
 
 write-slot-requires : tie.Need-write-slot-requires
 write-slot-requires c κs =
-    let s = now (c .before .before .before .before .before .before .before .before .before .args .s) in
-    let x = c .before .before .before .before .before .before .before .before .before .args .x in
-    let fits = passed (c .before .before .before .before .before .before .block-fits .ensures) (c .before .before .before .before .before .if1 .left) in
-    let range = block-range 8 0 (x .a) (x .b) (x .c) (and-left _ _ fits) in
-    let below = page-below s (c .before .before .before .before .before .before .before .before .before .pre .1) (x .a) (range .0) (unequal (c .before .before .before .open-page .ensures) (c .before .before .if2 .left)) in
-    (c .before .before .before .before .before .before .before .before .before .pre .0, c .before .before .before .before .before .before .before .before .before .pre .2, pages-in s (c .before .before .before .before .before .before .before .before .before .pre .1) .1, range .0, below, range .1, range .2)
+    let past = c .before .before .before .before .before in
+    let s = now (entry past .args .s) in
+    let pre = entry past .pre in
+    let below = page-below s (pre .1) (entry past .args .x .a) (range past .0) (unequal (c .before .before .before .open-page .ensures) (c .before .before .if2 .left)) in
+    (pre .0, pre .2, pages-in s (pre .1) .1, range past .0, below, range past .1, range past .2)
 
 tag-requires : tie.Need-tag-requires
-tag-requires c κs =
-    let x = c .before .before .before .before .before .before .before .before .before .before .before .before .before .args .x in
-    let fits = passed (c .before .before .before .before .before .before .before .before .before .before .block-fits .ensures) (c .before .before .before .before .before .before .before .before .before .if1 .left) in
-    let range = block-range 8 0 (x .a) (x .b) (x .c) (and-left _ _ fits) in
-    (c .before .before .before .before .before .before .before .before .before .before .before .before .before .pre .0, range .2)
+tag-requires c κs = (entry (c .before .before .before .before .before .before .before .before .before) .pre .0, range (c .before .before .before .before .before .before .before .before .before) .2)
 
 returns-3 : tie.Need-returns-3
 unfolding inRange slots badBits onOpen onClosed isClosed closed answer control-after pixels-after memory-after
 returns-3 c =
-    let s = now (c .before .before .before .before .before .before .before .before .before .before .before .before .before .before .before .before .before .before .before .args .s) in
-    let x = c .before .before .before .before .before .before .before .before .before .before .before .before .before .before .before .before .before .before .before .args .x in
-    let fits = passed (c .before .before .before .before .before .before .before .before .before .before .before .before .before .before .before .before .block-fits .ensures) (c .before .before .before .before .before .before .before .before .before .before .before .before .before .before .before .if1 .left) in
+    let past = c .before .before .before .before .before .before .before .before .before .before .before .before .before .before .before in
+    let s = now (entry past .args .s) in
+    let x = entry past .args .x in
+    let fits = test-holds (past .before .block-fits .ensures) (past .if1 .left) in
     let none = none-applies (decodeControl s) (writeBlock (eqb (x .op) 5) (x .a) (x .b) (x .c)) _ fits refl refl (unequal (c .before .before .before .before .before .before .before .before .before .before .before .before .before .open-page .ensures) (c .before .before .before .before .before .before .before .before .before .before .before .before .if2 .left)) in
-    let r = (row-write-block x (c .before .before .before .before .before .before .before .before .before .before .before .before .before .before .before .before .before .before .before .pre .3) (c .before .before .before .before .before .before .before .before .before .before .before .before .before .before .before .before .before .before .before .pre .4)) in (
-      c .before .before .done .ensures .0 ∙ ap (λ (v : ℕ). Done v false false) (c .before .before .before .tagged-bytes .ensures ∙ ap tagged (c .before .before .before .before .before .tag .ensures)) ∙ done-answer s x (writeBlock (eqb (x .op) 5) (x .a) (x .b) (x .c)) _ r none,
-      c .before .before .done .ensures .1 ∙ counts (held-of s (λ a. omega (arith, c .before .before .before .before .before .before .before .before .before .before .before .before .before .before .before .before .before .before .slice-known .given a)) (c .before .before .before .before .before .before .before .before .before .before .before .before .before .before .before .before .before .before .before .pre .1)) ∙ done-block s x (writeBlock (eqb (x .op) 5) (x .a) (x .b) (x .c)) _ r none _,
+    let r = row-write-block x (entry past .pre .3) (entry past .pre .4) in
+    let held = held-of s (λ a. omega (arith, past .before .before .before .slice-known .given a)) (entry past .pre .1) in
+    let counted-bytes = c .before .before .before .tagged-bytes .ensures ∙ ap tagged (c .before .before .before .before .before .tag .ensures) in (
+      c .before .before .done .ensures .0 ∙ ap (λ (v : ℕ). Done v false false) counted-bytes ∙ done-answer s x (writeBlock (eqb (x .op) 5) (x .a) (x .b) (x .c)) _ r none,
+      c .before .before .done .ensures .1 ∙ counts held ∙ done-block s x (writeBlock (eqb (x .op) 5) (x .a) (x .b) (x .c)) _ r none _,
       c .before .before .before .before .before .before .before .before .before .write-slot .ensures ∙ done-memory s x (writeBlock (eqb (x .op) 5) (x .a) (x .b) (x .c)) _ r none _,
     )
 

@@ -12,14 +12,17 @@ use Rattle.paging.proofs.blocks.write_slot.Tie as tie
 
 write-back-in-requires : tie.Need-write-back-in-requires
 write-back-in-requires c κs =
-    let pre = c .before .before .before .before .before .before .before .before .before .before .before .before .before .pre in
-    rw (c .before .before .before .before .before .before .before .before .before .before .pages .ensures, c .before .before .before .before .before .before .before .before .before .open-page .ensures) (pre .1, pre .2, pre .3, pre .4, pre .5, simp (length-take, length-drop) (omega (arith, pre .0, pre .6)))
+    let paged = c .before .before .before .before .before .before .before .before .before in
+    let pre = paged .before .before .before .before .pre in
+    rw (paged .before .pages .ensures, paged .open-page .ensures) (pre .1, pre .2, pre .3, pre .4, pre .5, simp (length-take, length-drop) (omega (arith, pre .0, pre .6)))
 
 returns : tie.Need-returns
 unfolding backMask slotByte
 returns c =
+    let masked = c .before .before .before .before .before .before .before .before in
+    let paged = masked .before .before .before .before in
     c .before .before .write-back-in .ensures
-    ∙ rw (c .before .before .before .before .before .before .before .before .before .before .before .before .before .pages .ensures, c .before .before .before .before .before .before .before .before .before .before .before .before .open-page .ensures, c .before .before .before .before .before .before .before .before .before .before .before .tag .ensures, c .before .before .before .before .before .before .before .before .pick .ensures, c .before .before .before .before .before .before .before .before .before .register .ensures, part-is (now (c .before .before .before .before .before .before .before .before .before .before .before .before .before .before .before .before .args .s)) 92)
+    ∙ rw (paged .before .pages .ensures, paged .open-page .ensures, masked .before .before .before .tag .ensures, masked .pick .ensures, masked .before .register .ensures, part-is (now (paged .before .before .before .before .args .s)) 92)
 
 pub write-slot-spec : {M : Type 1} → statement M
 write-slot-spec = tie.close (tie.spec (λ c κs. search needs) (λ c κs. search needs) (λ c κs. search needs) (λ c κs. search needs) (λ c κs. search needs) (λ c. search needs) (λ c. search needs) (λ c. search needs) (λ c. search needs) (λ c. search needs) (λ c. search needs) (λ c. search needs) (λ c. search needs) write-back-in-requires (λ c. search needs) returns)

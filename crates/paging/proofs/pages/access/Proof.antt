@@ -1,9 +1,10 @@
 -- `paging::pages::access` meets its contract. Assumes nothing.
 use mathlib.Core.Path.{refl, ap, _∙_}
+use Prim.Native.Nat.{_<_, _^_}
 use native.Mathlib.Omega.{arith}
 use denote.Ref.{now}
 use borrow.Author.Needs.{needs}
-use Rattle.layout.proofs.Numbers.{and-left}
+use Rattle.layout.proofs.Numbers.{and-left, test-holds, test-fails}
 use Rattle.chip.specs.Refusals.{badBits, onOpen, onClosed}
 use Rattle.chip.specs.Answers.{refusalOf, answer}
 use Rattle.chip.specs.Steps.{control-after, pixels-after}
@@ -11,7 +12,7 @@ use Rattle.chip.specs.Operations.{access, inRange}
 use Rattle.chip.specs.State.{closed, isClosed}
 use Rattle.chip.proofs.Accepted.{page-range}
 use Rattle.stored.specs.Block.{decodeControl}
-use Rattle.stored.proofs.Forms.{passed, failed, equal, unequal}
+use Rattle.stored.proofs.Forms.{equal, unequal}
 use Rattle.stored.proofs.Held.{held-of, held-page}
 use Rattle.steps.proofs.Changes.{further, counts, pages-in}
 use Rattle.steps.proofs.Owns.{outside, on-open, none-applies, refused, done-answer, done-block}
@@ -19,60 +20,58 @@ use Rattle.steps.proofs.Rows.{row-access}
 use Rattle.paging.proofs.pages.access.Statement.{statement}
 use Rattle.paging.proofs.pages.access.Tie as tie
 
+-- the function's entry, from past the test of the operands
+abbrev entry : tie.Else1 → tie.Start
+entry c = c .before .before .before .before
+
+-- past that test bank and page are in range
+range : (c : tie.Else1) → (entry c .args .x .a < 4) × (entry c .args .x .b < decodeControl (now (entry c .args .s)) .pages)
+range c = page-range 8 _ _ _ (and-left _ _ (test-holds (c .before .page-fits .ensures) (c .if1 .left)))
+
+page-small : (c : tie.Else1) → entry c .args .x .b < 2 ^ 16
+page-small c = omega (arith, range c .1, pages-in (now (entry c .args .s)) (entry c .pre .1) .1)
+
 returns : tie.Need-returns
 unfolding inRange refusalOf
 returns c =
-    let s = now (c .before .before .before .before .args .s) in
-    let x = c .before .before .before .before .args .x in
-    let fits = failed (c .before .page-fits .ensures) (c .if1 .taken) in
-    let res = refused s x (access (x .a) (x .b)) _ (row-access x (c .before .before .before .before .pre .2)) (outside (decodeControl s) (access (x .a) (x .b)) _ fits) in
+    let start = c .before .before .before .before in
+    let s = now (start .args .s) in
+    let x = start .args .x in
+    let res = refused s x (access (x .a) (x .b)) _ (row-access x (start .pre .2)) (outside (decodeControl s) (access (x .a) (x .b)) _ (test-fails (c .before .page-fits .ensures) (c .if1 .taken))) in
     (res .0, res .1)
 
 open-page-requires : tie.Need-open-page-requires
-open-page-requires c κs =
-    let s = now (c .before .before .before .before .before .args .s) in
-    let x = c .before .before .before .before .before .args .x in
-    let fits = passed (c .before .before .page-fits .ensures) (c .before .if1 .left) in
-    let range = page-range 8 (decodeControl s .pages) (x .a) (x .b) (and-left _ _ fits) in
-    (c .before .before .before .before .before .pre .0, range .0)
+open-page-requires c κs = (entry (c .before) .pre .0, range (c .before) .0)
 
 returns-2 : tie.Need-returns-2
 unfolding inRange badBits onOpen isClosed closed refusalOf
 returns-2 c =
-    let s = now (c .before .before .before .before .before .before .before .args .s) in
-    let x = c .before .before .before .before .before .before .before .args .x in
-    let fits = passed (c .before .before .before .before .page-fits .ensures) (c .before .before .before .if1 .left) in
+    let past = c .before .before .before in
+    let s = now (entry past .args .s) in
+    let x = entry past .args .x in
+    let fits = test-holds (past .before .page-fits .ensures) (past .if1 .left) in
     let open-now = unequal (c .before .open-page .ensures) (c .if2 .taken) in
-    let res = refused s x (access (x .a) (x .b)) _ (row-access x (c .before .before .before .before .before .before .before .pre .2)) (on-open (decodeControl s) (access (x .a) (x .b)) _ fits refl (rw open-now)) in
+    let res = refused s x (access (x .a) (x .b)) _ (row-access x (entry past .pre .2)) (on-open (decodeControl s) (access (x .a) (x .b)) _ fits refl (rw open-now)) in
     (res .0, res .1)
 
 cast-put-page : tie.Need-cast-put-page
-cast-put-page c =
-    let s = now (c .before .before .before .before .before .before .before .before .before .args .s) in
-    let x = c .before .before .before .before .before .before .before .before .before .args .x in
-    let fits = passed (c .before .before .before .before .before .before .page-fits .ensures) (c .before .before .before .before .before .if1 .left) in
-    let range = page-range 8 (decodeControl s .pages) (x .a) (x .b) (and-left _ _ fits) in
-    omega (arith, range .1, pages-in s (c .before .before .before .before .before .before .before .before .before .pre .1) .1)
+cast-put-page c = omega (arith, page-small (c .before .before .before .before .before))
 
 put-page-requires : tie.Need-put-page-requires
-put-page-requires c κs =
-    let s = now (c .before .before .before .before .before .before .before .before .before .args .s) in
-    let x = c .before .before .before .before .before .before .before .before .before .args .x in
-    let fits = passed (c .before .before .before .before .before .before .page-fits .ensures) (c .before .before .before .before .before .if1 .left) in
-    let range = page-range 8 (decodeControl s .pages) (x .a) (x .b) (and-left _ _ fits) in
-    (c .before .before .before .before .before .before .before .before .before .pre .0, range .0)
+put-page-requires c κs = (entry (c .before .before .before .before .before) .pre .0, range (c .before .before .before .before .before) .0)
 
 returns-3 : tie.Need-returns-3
 unfolding inRange badBits onOpen onClosed isClosed closed answer control-after pixels-after
 returns-3 c =
-    let s = now (c .before .before .before .before .before .before .before .before .before .before .before .before .before .before .before .before .args .s) in
-    let x = c .before .before .before .before .before .before .before .before .before .before .before .before .before .before .before .before .args .x in
-    let fits = passed (c .before .before .before .before .before .before .before .before .before .before .before .before .before .page-fits .ensures) (c .before .before .before .before .before .before .before .before .before .before .before .before .if1 .left) in
-    let range = page-range 8 (decodeControl s .pages) (x .a) (x .b) (and-left _ _ fits) in
+    let past = c .before .before .before .before .before .before .before .before .before .before .before .before in
+    let s = now (entry past .args .s) in
+    let x = entry past .args .x in
+    let fits = test-holds (past .before .page-fits .ensures) (past .if1 .left) in
     let shut = equal (c .before .before .before .before .before .before .before .before .before .before .open-page .ensures) (c .before .before .before .before .before .before .before .before .before .if2 .left) in
     let none = none-applies (decodeControl s) (access (x .a) (x .b)) _ fits refl (rw shut) refl in
-    let r = row-access x (c .before .before .before .before .before .before .before .before .before .before .before .before .before .before .before .before .pre .2) in
-    let held = held-page (held-of s (λ a. omega (arith, c .before .before .before .before .before .before .before .before .before .before .before .before .before .before .before .slice-known .given a)) (c .before .before .before .before .before .before .before .before .before .before .before .before .before .before .before .before .pre .1)) (x .a) (x .b) (range .0) (omega (arith, range .1, pages-in s (c .before .before .before .before .before .before .before .before .before .before .before .before .before .before .before .before .pre .1) .1)) in (
+    let r = row-access x (entry past .pre .2) in
+    let start = held-of s (λ a. omega (arith, past .before .before .before .slice-known .given a)) (entry past .pre .1) in
+    let held = held-page start (x .a) (x .b) (range past .0) (page-small past) in (
       c .before .before .done .ensures .0 ∙ done-answer s x (access (x .a) (x .b)) _ r none,
       λ memory. c .before .before .done .ensures .1 ∙ ap further (c .before .before .before .before .before .before .put-page .ensures) ∙ counts held ∙ done-block s x (access (x .a) (x .b)) _ r none memory,
     )

@@ -1,18 +1,18 @@
 -- `paging::pages::precharge` meets its contract. Assumes nothing.
 use mathlib.Core.Path.{refl, ap, _∙_}
+use Prim.Native.Nat.{_<_}
 use native.Mathlib.Omega.{arith}
 use lib.Dec.{lit<}
 use denote.Ref.{now}
 use borrow.Author.Tests.{ltb-true}
 use borrow.Author.Needs.{needs}
-use Rattle.layout.proofs.Numbers.{and-left}
+use Rattle.layout.proofs.Numbers.{and-left, test-holds, test-fails}
 use Rattle.chip.specs.Refusals.{badBits, onOpen, onClosed}
 use Rattle.chip.specs.Answers.{refusalOf, answer}
 use Rattle.chip.specs.Steps.{control-after, pixels-after}
 use Rattle.chip.specs.Operations.{precharge, inRange}
 use Rattle.chip.specs.State.{closed}
 use Rattle.stored.specs.Block.{decodeControl}
-use Rattle.stored.proofs.Forms.{passed, failed}
 use Rattle.stored.proofs.Held.{held-of, held-page}
 use Rattle.steps.proofs.Changes.{further, counts}
 use Rattle.steps.proofs.Owns.{outside, none-applies, refused, done-answer, done-block}
@@ -20,30 +20,37 @@ use Rattle.steps.proofs.Rows.{row-precharge}
 use Rattle.paging.proofs.pages.precharge.Statement.{statement}
 use Rattle.paging.proofs.pages.precharge.Tie as tie
 
+-- the function's entry, from past the test of the operands
+abbrev entry : tie.Else1 → tie.Start
+entry c = c .before .before .before
+
+-- past that test there is such a bank
+bank-there : (c : tie.Else1) → entry c .args .x .a < 4
+bank-there c = ltb-true (entry c .args .x .a) 4 (and-left _ _ (test-holds (c .before .bank-fits .ensures) (c .if1 .left)))
+
 returns : tie.Need-returns
 unfolding inRange refusalOf
 returns c =
-    let s = now (c .before .before .before .args .s) in
-    let x = c .before .before .before .args .x in
-    let fits = failed (c .before .bank-fits .ensures) (c .if1 .taken) in
-    let res = refused s x (precharge (x .a)) _ (row-precharge x (c .before .before .before .pre .2)) (outside (decodeControl s) (precharge (x .a)) _ fits) in
+    let start = c .before .before .before in
+    let s = now (start .args .s) in
+    let x = start .args .x in
+    let res = refused s x (precharge (x .a)) _ (row-precharge x (start .pre .2)) (outside (decodeControl s) (precharge (x .a)) _ (test-fails (c .before .bank-fits .ensures) (c .if1 .taken))) in
     (res .0, res .1)
 
 put-page-requires : tie.Need-put-page-requires
-put-page-requires c κs =
-    let x = c .before .before .before .before .args .x in
-    let fits = passed (c .before .before .bank-fits .ensures) (c .before .if1 .left) in
-    (c .before .before .before .before .pre .0, ltb-true (x .a) 4 (and-left _ _ fits))
+put-page-requires c κs = (entry (c .before) .pre .0, bank-there (c .before))
 
 returns-2 : tie.Need-returns-2
 unfolding inRange badBits onOpen onClosed answer control-after pixels-after closed
 returns-2 c =
-    let s = now (c .before .before .before .before .before .before .before .before .before .before .before .args .s) in
-    let x = c .before .before .before .before .before .before .before .before .before .before .before .args .x in
-    let fits = passed (c .before .before .before .before .before .before .before .before .before .bank-fits .ensures) (c .before .before .before .before .before .before .before .before .if1 .left) in
+    let past = c .before .before .before .before .before .before .before .before in
+    let s = now (entry past .args .s) in
+    let x = entry past .args .x in
+    let fits = test-holds (past .before .bank-fits .ensures) (past .if1 .left) in
     let none = none-applies (decodeControl s) (precharge (x .a)) _ fits refl refl refl in
-    let r = row-precharge x (c .before .before .before .before .before .before .before .before .before .before .before .pre .2) in
-    let held = held-page (held-of s (λ a. omega (arith, c .before .before .before .before .before .before .before .before .before .before .slice-known .given a)) (c .before .before .before .before .before .before .before .before .before .before .before .pre .1)) (x .a) 65535 (ltb-true (x .a) 4 (and-left _ _ fits)) (lit< tt) in (
+    let r = row-precharge x (entry past .pre .2) in
+    let start = held-of s (λ a. omega (arith, past .before .before .slice-known .given a)) (entry past .pre .1) in
+    let held = held-page start (x .a) 65535 (bank-there past) (lit< tt) in (
       c .before .before .done .ensures .0 ∙ done-answer s x (precharge (x .a)) _ r none,
       λ memory. c .before .before .done .ensures .1 ∙ ap further (c .before .before .before .before .before .before .put-page .ensures) ∙ counts held ∙ done-block s x (precharge (x .a)) _ r none memory,
     )

@@ -8,10 +8,10 @@ use denote.Ref.{now}
 use borrow.Author.Needs.{needs}
 use Rattle.bits.specs.Bits.{every, within}
 use Rattle.pixel.specs.Registers.{register}
+use Rattle.layout.proofs.Numbers.{test-holds, test-fails}
 use Rattle.chip.specs.State.{storable}
 use Rattle.chip.proofs.Forms.{register-test}
 use Rattle.stored.specs.Block.{wordsAt, decodeControl}
-use Rattle.stored.proofs.Forms.{passed, failed}
 use Rattle.stored.proofs.Places.{words-lt}
 use Rattle.stored.proofs.form.registers_fit.Statement.{statement}
 use Rattle.stored.proofs.form.registers_fit.Tie as tie
@@ -28,15 +28,15 @@ tested c =
 
 returns : tie.Need-returns
 unfolding register
-returns c = sym (tested (c .before .before .before) ∙ rw (failed (c .before .within .ensures ∙ ap (λ (x : ℕ). within x 0x2f2f_2f2f) (c .before .before .register .ensures)) (c .if1 .taken)))
+returns c = sym (tested (c .before .before .before) ∙ rw (test-fails (c .before .within .ensures ∙ ap (λ (x : ℕ). within x 0x2f2f_2f2f) (c .before .before .register .ensures)) (c .if1 .taken)))
 
 returns-2 : tie.Need-returns-2
 unfolding register
-returns-2 c = sym (tested (c .before .before .before .before .before .before) ∙ rw (passed (c .before .before .before .before .within .ensures ∙ ap (λ (x : ℕ). within x 0x2f2f_2f2f) (c .before .before .before .before .before .register .ensures)) (c .before .before .before .if1 .left), failed (c .before .within2 .ensures ∙ ap (λ (x : ℕ). within x 0x0003_0707) (c .before .before .register2 .ensures)) (c .if2 .taken)))
+returns-2 c = sym (tested (c .before .before .before .before .before .before) ∙ rw (test-holds (c .before .before .before .before .within .ensures ∙ ap (λ (x : ℕ). within x 0x2f2f_2f2f) (c .before .before .before .before .before .register .ensures)) (c .before .before .before .if1 .left), test-fails (c .before .within2 .ensures ∙ ap (λ (x : ℕ). within x 0x0003_0707) (c .before .before .register2 .ensures)) (c .if2 .taken)))
 
 returns-3 : tie.Need-returns-3
 unfolding register
-returns-3 c = c .within3 .ensures ∙ ap (λ (x : ℕ). within x 1) (c .before .register3 .ensures) ∙ sym (tested (c .before .before .before .before .before .before .before .before) ∙ rw (passed (c .before .before .before .before .before .before .within .ensures ∙ ap (λ (x : ℕ). within x 0x2f2f_2f2f) (c .before .before .before .before .before .before .before .register .ensures)) (c .before .before .before .before .before .if1 .left), passed (c .before .before .before .within2 .ensures ∙ ap (λ (x : ℕ). within x 0x0003_0707) (c .before .before .before .before .register2 .ensures)) (c .before .before .if2 .left)))
+returns-3 c = c .within3 .ensures ∙ ap (λ (x : ℕ). within x 1) (c .before .register3 .ensures) ∙ sym (tested (c .before .before .before .before .before .before .before .before) ∙ rw (test-holds (c .before .before .before .before .before .before .within .ensures ∙ ap (λ (x : ℕ). within x 0x2f2f_2f2f) (c .before .before .before .before .before .before .before .register .ensures)) (c .before .before .before .before .before .if1 .left), test-holds (c .before .before .before .within2 .ensures ∙ ap (λ (x : ℕ). within x 0x0003_0707) (c .before .before .before .before .register2 .ensures)) (c .before .before .if2 .left)))
 
 pub registers-fit-spec : {M : Type 1} → statement M
 registers-fit-spec = tie.close (tie.spec (λ c κs. search needs) (λ c κs. search needs) returns (λ c κs. search needs) (λ c κs. search needs) returns-2 (λ c κs. search needs) (λ c κs. search needs) returns-3)
