@@ -28,7 +28,7 @@ use Rattle.picture.proofs.Nexts.{worldOf}
 use Rattle.picture.proofs.Kept.{standing, offPage, offBlock, idle, each, kept}
 use Rattle.picture.proofs.Keeping.{asked, Draws, ends, done, refused}
 
--- a fresh chip whose calls draw whatever the bytes draws over any memory
+-- calls that keep to the premises from a fresh chip on, whatever the bytes are, do so over any memory
 draws-over : (P : ℕ) (calls : List Call) → pagesFit P ≡ true → Draws slots (freshControl slots P) (blank slots) calls → SettlesOver P calls
 unfolding SettlesOver start freshWith worldOf freshControl
 draws-over P calls fit draws memory sized = draws .over _ memory (flatFresh P memory) (fresh-well-formed slots P fit) sized
