@@ -1,19 +1,17 @@
 -- A block with one field put and its calls counted is the chip with that part changed, stored. Assumes nothing.
 use mathlib.Core.Path.{_≡_}
-use mathlib.Core.Bool.{true, false, _&&_}
+use mathlib.Core.Bool.{true, false}
 use mathlib.Core.List.{List}
 use Prim.Native.Nat.{ℕ, _+_, _%_, _^_, _<_, _≤_}
 use lib.Dec.{eqb}
 use lib.ListN.{length}
-use borrow.Author.Tests.{eqb-true}
-use Rattle.bits.specs.Bits.{within}
-use Rattle.layout.proofs.Numbers.{and-left, and-right}
-use Rattle.bank.specs.Words.{halfAt, wordAt, putWord}
+use Rattle.bank.specs.Words.{wordAt, putWord}
 use Rattle.chip.specs.declared.Control.{Control}
 use Rattle.chip.specs.State.{closed, openPage, isClosed, wellFormed}
 use Rattle.chip.specs.Steps.{counted}
 use Rattle.chip.proofs.Accepted.{pages-fit, open-below}
-use Rattle.stored.specs.Block.{counterAt, halvesAt, header, same, encode, decodeControl, wellFormedBlock}
+use Rattle.stored.specs.Block.{counterAt, encode, decodeControl, wellFormedBlock}
+use Rattle.stored.proofs.RoundTrip.{well-parts}
 use Rattle.stored.proofs.Held.{Held, held-block, held-counted, counter-read}
 
 -- one call more
@@ -27,9 +25,7 @@ counts {s} {c} {pixels} h = rw (counter-read h) (held-block (held-counted h))
 
 module _ (s : List ℕ) (well : wellFormedBlock s ≡ true) where
   pub well-control : wellFormed (decodeControl s) ≡ true
-  unfolding wellFormedBlock
-  well-control =
-      and-right (eqb (length s) 348 && same (halvesAt 8 s 0) (header (halfAt s 0)) && within (wordAt s 52) 3) (wellFormed (decodeControl s)) well
+  well-control = well-parts s well .3
 
   pub pages-in : (1 ≤ decodeControl s .pages) × (decodeControl s .pages ≤ 257)
   pages-in = pages-fit (decodeControl s) well-control
@@ -39,10 +35,4 @@ module _ (s : List ℕ) (well : wellFormedBlock s ≡ true) where
   page-below b hb e = open-below (decodeControl s) well-control b hb (unfold isClosed closed in e)
 
   pub well-long : length s ≡ 348
-  unfolding wellFormedBlock
-  well-long =
-      let three = eqb (length s) 348 && same (halvesAt 8 s 0) (header (halfAt s 0)) && within (wordAt s 52) 3 in
-      let two = eqb (length s) 348 && same (halvesAt 8 s 0) (header (halfAt s 0)) in
-      eqb-true (length s) 348
-      (and-left (eqb (length s) 348) (same (halvesAt 8 s 0) (header (halfAt s 0)))
-      (and-left two (within (wordAt s 52) 3) (and-left three (wellFormed (decodeControl s)) well)))
+  well-long = well-parts s well .0

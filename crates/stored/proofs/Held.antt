@@ -1,11 +1,11 @@
 -- A block that holds a chip, changed in place: with one field put, it holds the chip with that part changed. Assumes nothing.
 use mathlib.Core.Path.{_≡_, refl, sym, ap, ap₂, _∙_}
-use mathlib.Core.Bool.{Bool, true, false}
+use mathlib.Core.Bool.{Bool, true}
 use mathlib.Core.List.{List}
 use Prim.Native.Nat.{ℕ, _+_, _-_, _*_, _%_, _^_, _<_, _≤_}
 use native.Mathlib.Omega.{arith}
 use native.Mathlib.Nat.{mod-lt, add-assoc}
-use lib.Dec.{lit<, lit≤}
+use lib.Dec.{lit≤}
 use lib.Pow.{pow-pos}
 use lib.ListN.{length, getD, set, drop}
 use Rattle.bits.specs.Bits.{bit, byte, digit}
@@ -17,7 +17,7 @@ use Rattle.bank.proofs.Words.{word-put-same, length-put-half, length-put-word, 
 use Rattle.chip.specs.declared.Control.{Control}
 use Rattle.chip.specs.Steps.{withPage, withTag, counted}
 use Rattle.stored.specs.Block.{pageAt, registerAt, flagsAt, counterAt, tagAt, pixelsAt, halvesAt, wordsAt, header, encode, decodeControl, decode, wellFormedBlock}
-use Rattle.stored.proofs.RoundTrip.{Framed, well-framed, framed-back, flags-lt, flag-0, flag-1}
+use Rattle.stored.proofs.RoundTrip.{Framed, well-framed, framed-back, flags-four, flags-lt, flag-0, flag-1}
 use Rattle.stored.proofs.Places.{Alike, half-alike, word-alike, halves-alike, words-alike, drop-alike, half-before, half-behind, word-before, word-behind, halves-put, words-put}
 
 -- a framed block from which the chip is read
@@ -57,12 +57,6 @@ flagging c picking hit = record {
   counter = c .counter;
   tags = c .tags;
 }
-
-flags-four : (p h : Bool) → digit p + digit h * 2 < 4
-flags-four true true = lit< tt
-flags-four true false = lit< tt
-flags-four false true = lit< tt
-flags-four false false = lit< tt
 
 -- a block of the same length and bytes, whose header and flags are as they were
 frame-stays : (s' s : List ℕ) → Framed s → length s' ≡ length s → ((a : ℕ) → getD s' a 0 < 2 ^ 8) → Alike 0 16 s' s → wordAt s' 52 < 4 → Framed s'

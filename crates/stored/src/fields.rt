@@ -10,7 +10,7 @@ ghost use Rattle.chip.specs.State.{openPage};
 ghost use Rattle.chip.specs.Steps.{tagOf, slotByte};
 ghost use Rattle.stored.specs.Block.{pageAt, registerAt, flagsAt, counterAt, tagAt, pixelsAt, decodeControl};
 
-// Document 01's offsets.
+// Document 01's offsets of banks, registers, flags, counter, tags and pixels.
 pub const BANKS_AT: usize = 16;
 
 pub const REGISTERS_AT: usize = 24;
@@ -23,7 +23,7 @@ pub const TAGS_AT: usize = 60;
 
 pub const PIXELS_AT: usize = 92;
 
-// Numbers of 16 and of 32 bits, and slots, lie so many bytes apart.
+// How many bytes apart numbers of 16 bits, numbers of 32 bits and slots lie.
 pub const HALF_BYTES: usize = 2;
 
 pub const WORD_BYTES: usize = 4;

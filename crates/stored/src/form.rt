@@ -3,16 +3,9 @@ ghost use mathlib.Core.Path.{_≡_};
 ghost use lib.ListN.{length, getD};
 ghost use Rattle.bits.specs.Bits.{every, within};
 ghost use Rattle.bank.specs.Words.{halfAt};
-ghost use Rattle.layout.specs.Numbers.{pagesFit};
 ghost use Rattle.chip.specs.State.{openPage, pageFits, storable};
 ghost use Rattle.stored.specs.Block.{halvesAt, header, same, decodeControl, wellFormedBlock};
 use super::fields;
-
-fn pages_fit(pages: u16) -> bool
-    ensures { λ r. ⌜ r ≡ pagesFit pages ⌝ }
-{
-    (1 <= pages) & (pages <= 257)
-}
 
 // Whether the header's fields but P are document 01's: 8, then pairs of 16 and 24, 52 and 60, 92 and 348, each pair as one word.
 fn header_fits(s: &[u8]) -> bool
@@ -71,7 +64,7 @@ pub fn well_formed(s: &[u8]) -> bool
     if !header_fits(s) {
         return false;
     }
-    if !pages_fit(fields::pages(s)) {
+    if !layout::memory::pages_fit(fields::pages(s) as u32) {
         return false;
     }
     if !banks_fit(s) {
