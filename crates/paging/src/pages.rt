@@ -54,13 +54,14 @@ pub fn duplicate(s: &mut [u8], memory: &mut [u8], x: Call) -> Answer
         return Answer::Refused(Refusal::BankClosed);
     }
     let pages = fields::pages(s);
+    let named = x.b as u16;
     bank::copy_page_in(
         memory,
         pages as usize,
         x.a as usize,
         from as usize,
-        x.b as usize,
+        named as usize,
     );
-    fields::put_page(s, x.a, x.b as u16);
+    fields::put_page(s, x.a, named);
     done(s, 0)
 }

@@ -56,6 +56,9 @@ returns-2 c =
     let res = refused s x (duplicate (x .a) (x .b)) _ (row-duplicate x (entry past .pre .3)) (on-closed (decodeControl s) (duplicate (x .a) (x .b)) _ fits refl refl shut) in
     (res .0, res .1 _, res .2 _)
 
+cast-named : tie.Need-cast-named
+cast-named c = omega (arith, page-small (c .before .before .before .before .before .before))
+
 copy-page-in-requires : tie.Need-copy-page-in-requires
 copy-page-in-requires c κs =
     let past = c .before .before .before .before .before .before .before .before in
@@ -65,30 +68,27 @@ copy-page-in-requires c κs =
     let below = page-below s (pre .1) (entry past .args .x .a) (range past .0) (unequal from (c .before .before .before .before .before .if2 .left)) in
     rw (c .before .before .before .pages .ensures, from) (pre .2, pages-in s (pre .1) .1, range past .0, below, range past .1)
 
-cast-put-page : tie.Need-cast-put-page
-cast-put-page c = omega (arith, page-small (c .before .before .before .before .before .before .before .before .before .before .before .before .before))
-
 put-page-requires : tie.Need-put-page-requires
-put-page-requires c κs = (entry (c .before .before .before .before .before .before .before .before .before .before .before .before .before) .pre .0, range (c .before .before .before .before .before .before .before .before .before .before .before .before .before) .0)
+put-page-requires c κs = (entry (c .before .before .before .before .before .before .before .before .before .before .before .before) .pre .0, range (c .before .before .before .before .before .before .before .before .before .before .before .before) .0)
 
 returns-3 : tie.Need-returns-3
 unfolding inRange badBits onOpen onClosed isClosed closed answer control-after pixels-after memory-after
 returns-3 c =
-    let past = c .before .before .before .before .before .before .before .before .before .before .before .before .before .before .before .before .before .before .before .before in
+    let past = c .before .before .before .before .before .before .before .before .before .before .before .before .before .before .before .before .before .before .before in
     let s = now (entry past .args .s) in
     let x = entry past .args .x in
     let fits = test-holds (past .before .page-fits .ensures) (past .if1 .left) in
-    let from = c .before .before .before .before .before .before .before .before .before .before .before .before .before .before .before .before .before .before .open-page .ensures in
-    let none = none-applies (decodeControl s) (duplicate (x .a) (x .b)) _ fits refl refl (unequal from (c .before .before .before .before .before .before .before .before .before .before .before .before .before .before .before .before .before .if2 .left)) in
+    let from = c .before .before .before .before .before .before .before .before .before .before .before .before .before .before .before .before .before .open-page .ensures in
+    let none = none-applies (decodeControl s) (duplicate (x .a) (x .b)) _ fits refl refl (unequal from (c .before .before .before .before .before .before .before .before .before .before .before .before .before .before .before .before .if2 .left)) in
     let r = row-duplicate x (entry past .pre .3) in
     let start = held-of s (λ a. omega (arith, past .before .before .before .before .slice-known .given a)) (entry past .pre .1) in
     let held = held-page start (x .a) (x .b) (range past .0) (page-small past) in (
       c .before .before .done .ensures .0 ∙ done-answer s x (duplicate (x .a) (x .b)) _ r none,
       c .before .before .done .ensures .1 ∙ ap further (c .before .before .before .before .before .before .put-page .ensures) ∙ counts held ∙ done-block s x (duplicate (x .a) (x .b)) _ r none _,
-      c .before .before .before .before .before .before .before .before .before .before .before .copy-page-in .ensures
-          ∙ ap₂ (λ (P from : ℕ). copied (place P (x .a) from) (place P (x .a) (x .b)) (now (entry past .args .memory))) (c .before .before .before .before .before .before .before .before .before .before .before .before .before .before .before .pages .ensures) from
+      c .before .before .before .before .before .before .before .before .before .before .copy-page-in .ensures
+          ∙ ap₂ (λ (P from : ℕ). copied (place P (x .a) from) (place P (x .a) (x .b)) (now (entry past .args .memory))) (c .before .before .before .before .before .before .before .before .before .before .before .before .before .before .pages .ensures) from
           ∙ done-memory s x (duplicate (x .a) (x .b)) _ r none _,
     )
 
 pub duplicate-spec : {M : Type 1} → statement M
-duplicate-spec = tie.close (tie.spec (λ c κs. search needs) (λ c. search needs) returns open-page-requires (λ c. search needs) returns-2 (λ c κs. search needs) (λ c. search needs) (λ c. search needs) (λ c. search needs) (λ c. search needs) copy-page-in-requires cast-put-page put-page-requires (λ c κs. search needs) (λ c. search needs) (λ c. search needs) returns-3)
+duplicate-spec = tie.close (tie.spec (λ c κs. search needs) (λ c. search needs) returns open-page-requires (λ c. search needs) returns-2 (λ c κs. search needs) cast-named (λ c. search needs) (λ c. search needs) (λ c. search needs) (λ c. search needs) copy-page-in-requires put-page-requires (λ c κs. search needs) (λ c. search needs) (λ c. search needs) returns-3)
