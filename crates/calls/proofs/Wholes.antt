@@ -17,7 +17,7 @@ use Rattle.chip.specs.Operations.{Operation, row, operation}
 use Rattle.chip.specs.Steps.{memory-after}
 use Rattle.chip.specs.Answers.{refusalOf}
 use Rattle.chip.specs.Refusals.{number}
-use Rattle.chip.specs.Calls.{actedWith, pixelsWith, memoryWith, answeredWith, answeredOf, memoryLeft, memoryOf}
+use Rattle.chip.specs.Calls.{answeredWith, memoryWith, answeredOf, memoryOf}
 use Rattle.stored.specs.Block.{decodeControl, decode, wellFormedBlock}
 use Rattle.stored.specs.Doors.{blockAnswer, blockAfter, blockMemory}
 use Rattle.stored.proofs.RoundTrip.{encode-decode}
@@ -41,7 +41,7 @@ pub record Ready (s memory : List ℕ) : Type 0 where
 -- by the number that the definitions give
 refusal : (s memory : List ℕ) (x : Call) → ((a : ℕ) → getD s a 0 < 2 ^ 8) → wellFormedBlock s ≡ true
     → {k : ℕ} → number slots (decodeControl s) (length memory) x ≡ suc k → Comes s memory x (Refused (refusalOf (suc k))) s memory
-unfolding blockAnswer blockAfter blockMemory answeredOf answeredWith actedWith pixelsWith memoryOf memoryLeft memoryWith decode
+unfolding blockAnswer blockAfter blockMemory answeredOf answeredWith memoryOf memoryWith decode
 refusal s memory x bytes well e = (rw (well, e), rw (well, e) (sym (unfold decode in encode-decode s bytes well)), rw (well, e))
 
 pub wrong-length : (s memory : List ℕ) (x : Call) → ((a : ℕ) → getD s a 0 < 2 ^ 8) → wellFormedBlock s ≡ true
@@ -74,7 +74,7 @@ module _ {s memory : List ℕ} (ready : Ready s memory) (x : Call) where
 
   done : number slots (decodeControl s) (length memory) x ≡ 0 → ownNumber s x ≡ 0
       → Comes s memory x (ownAnswer s x) (ownBlock s memory x) (ownMemory s memory x)
-  unfolding ownAnswer ownBlock ownMemory blockAnswer blockAfter blockMemory answeredOf answeredWith actedWith pixelsWith memoryOf memoryLeft memoryWith decode
+  unfolding ownAnswer ownBlock ownMemory blockAnswer blockAfter blockMemory answeredOf answeredWith memoryOf memoryWith decode
   done n e = (rw (ready .well, n, e), rw (ready .well, n, e), rw (ready .well, n, e))
 
   known : 1 ≤ x .op → x .op ≤ 15 → Comes s memory x (ownAnswer s x) (ownBlock s memory x) (ownMemory s memory x)

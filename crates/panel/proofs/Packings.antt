@@ -23,7 +23,7 @@ use Rattle.chip.specs.declared.Refusal.the-variants.{IllFormed}
 use Rattle.chip.specs.declared.Call.{Call}
 use Rattle.chip.specs.State.{slots}
 use Rattle.chip.specs.Answers.{numberOf, packed, packedOf}
-use Rattle.chip.specs.Calls.{answeredOf, answeredWith}
+use Rattle.chip.specs.Calls.{answeredOf}
 use Rattle.chip.proofs.Numbers as numbers
 use Rattle.chip.proofs.Forms as forms
 use Rattle.stored.specs.Block.{decodeControl, decode, wellFormedBlock}
@@ -40,11 +40,11 @@ digit-le false = lit≤ tt
 
 -- its number is 0 to 7
 pub number-lt : (s memory : List ℕ) (x : Call) → numberOf (blockAnswer s memory x) < 256
-unfolding blockAnswer answeredOf answeredWith decode
+unfolding blockAnswer answeredOf decode
 number-lt s memory x = go (wellFormedBlock s)
   where
     go : (well : Bool) → numberOf (cond well (answeredOf (decode s) memory x .answer) (Refused IllFormed)) < 256
-    go true = rw (numbers.numbers-given slots (decodeControl s) (decode s .pixels) memory x) (omega (arith, numbers.number-lt slots (decodeControl s) (length memory) x))
+    go true = rw (numbers.numbers-given slots (decode s) memory x) (omega (arith, numbers.number-lt slots (decodeControl s) (length memory) x))
     go false = lit< tt
 
 pub refused-packed : (a : Answer) (r : Refusal) → a ≡ Refused r → packed 0 0 0 (numberOf a) ≡ packedOf a

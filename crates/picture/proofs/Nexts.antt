@@ -10,7 +10,7 @@ use Rattle.chip.specs.declared.Call.{Call}
 use Rattle.chip.specs.Operations.{Operation, access, precharge, duplicate, readBlock, writeBlock, dataRead, dataWrite, writeTag, writeRegister, readRegister, unknown, operation}
 use Rattle.chip.specs.Steps.{counted, withRegister, control-after, pixels-after, memory-after}
 use Rattle.chip.specs.Refusals.{number}
-use Rattle.chip.specs.Calls.{readIn, actedWith, pixelsWith, memoryWith, answeredWith}
+use Rattle.chip.specs.Calls.{readIn, answeredWith, memoryWith}
 use Rattle.picture.specs.Book.{Book, note}
 use Rattle.picture.specs.Flat.{Flat, flatStep}
 use Rattle.picture.specs.Drawing.{World, numberIn, next}
@@ -24,12 +24,12 @@ module _ (n : ℕ) where
       → next n (worldOf c p m g f) x
       ≡ worldOf (counted (control-after n c (operation x) (readIn p x))) (pixels-after n c p m (operation x) (readIn p x))
       (memory-after c p m (operation x)) (note n c g (operation x) (readIn p x)) (flatStep n g f x)
-  unfolding next numberIn answeredWith actedWith pixelsWith memoryWith worldOf
+  unfolding next numberIn answeredWith memoryWith worldOf
   next-done c p m g f x r = rw r
 
   pub next-refused : (c : Control) (p m : List ℕ) (g : Book) (f : Flat) (x : Call) (k : ℕ) → number n c (length m) x ≡ suc k
       → next n (worldOf c p m g f) x ≡ worldOf c p m g (flatStep n g f x)
-  unfolding next numberIn answeredWith actedWith pixelsWith memoryWith worldOf
+  unfolding next numberIn answeredWith memoryWith worldOf
   next-refused c p m g f x k r = rw r
 
 -- ---- no call changes the number of pages or of bytes

@@ -12,7 +12,7 @@ use Rattle.chip.specs.declared.Refusal.the-variants.{IllFormed}
 use Rattle.chip.specs.State.{wellFormed}
 use Rattle.chip.specs.Answers.{refusalOf}
 use Rattle.chip.specs.Refusals.{number}
-use Rattle.chip.specs.Calls.{actedWith, pixelsWith, memoryWith, answeredWith, memoryLeft, answeredOf, memoryOf}
+use Rattle.chip.specs.Calls.{answeredWith, memoryWith, answeredOf, memoryOf}
 use Rattle.stored.specs.Block.{encode, decode}
 use Rattle.stored.specs.Doors.{blockAnswer, blockAfter, blockMemory}
 use Rattle.stored.proofs.RoundTrip.{Sized, decode-encode, encoded-well}
@@ -26,11 +26,11 @@ either false x y same = sym (same refl)
 module _ (chip : Chip) (z : Sized chip) (memory : List ℕ) (x : Call) where
   -- a chip that is not well formed is refused and left, and so is memory
   ill-formed : wellFormed (chip .control) ≡ false → answeredOf chip memory x ≡ record { answer = Refused IllFormed; chip = chip }
-  unfolding answeredOf answeredWith actedWith pixelsWith number first refusalOf
+  unfolding answeredOf answeredWith number first refusalOf
   ill-formed e = rw e
 
   ill-memory : wellFormed (chip .control) ≡ false → memoryOf chip memory x ≡ memory
-  unfolding memoryOf memoryLeft memoryWith number first
+  unfolding memoryOf memoryWith number first
   ill-memory e = rw e
 
   pub answer-by-value : blockAnswer (encode chip) memory x ≡ answeredOf chip memory x .answer

@@ -13,7 +13,7 @@ use Rattle.layout.specs.Numbers.{whenDone}
 use Rattle.bank.specs.Update.{update}
 use Rattle.bank.specs.Work.{loaded}
 use Rattle.bank.proofs.Updates.{length-update, update-all}
-use Rattle.chip.specs.declared.Acted.{Acted}
+use Rattle.chip.specs.declared.Answered.{Answered}
 use Rattle.chip.specs.declared.Call.{Call}
 use Rattle.chip.specs.declared.Chip.{Chip}
 use Rattle.chip.specs.declared.Control.{Control}
@@ -22,7 +22,7 @@ use Rattle.chip.specs.Operations.{Operation, access, precharge, duplicate, read
 use Rattle.chip.specs.Writes.{painted, marked, tagWith}
 use Rattle.chip.specs.Steps.{withRegister, counted, tagOf, control-after, pixels-after}
 use Rattle.chip.specs.Refusals.{number}
-use Rattle.chip.specs.Calls.{readIn, actedWith, pixelsWith, answeredWith, answeredOf}
+use Rattle.chip.specs.Calls.{readIn, answeredWith, answeredOf}
 use Rattle.chip.proofs.Accepted.{accepted, page-range}
 use Rattle.stored.proofs.RoundTrip.{Sized}
 
@@ -146,14 +146,13 @@ word-given x h = go (x .op)
     go (suc (suc (suc (suc (suc (suc (suc (suc (suc (suc (suc (suc (suc (suc (suc (suc op)))))))))))))))) = tt
 
 -- done or refused
-whenDone-sized : (k : ℕ) (a b : Acted) (p q : List ℕ) → (k ≡ 0 → Sized (record { control = a .control; pixels = p }))
-    → Sized (record { control = b .control; pixels = q }) → Sized (record { control = whenDone k a b .control; pixels = whenDone k p q })
-whenDone-sized zero a b p q done refused = done refl
-whenDone-sized (suc k) a b p q done refused = refused
+whenDone-sized : (k : ℕ) (a b : Answered) → (k ≡ 0 → Sized (a .chip)) → Sized (b .chip) → Sized (whenDone k a b .chip)
+whenDone-sized zero a b done refused = done refl
+whenDone-sized (suc k) a b done refused = refused
 
 pub stays-sized : (chip : Chip) (memory : List ℕ) (x : Call) → Sized chip → x .given < 2 ^ 32 → Sized (answeredOf chip memory x .chip)
-unfolding answeredOf answeredWith actedWith pixelsWith
-stays-sized chip memory x z h = whenDone-sized (number slots (chip .control) (length memory) x) _ _ _ _
+unfolding answeredOf answeredWith
+stays-sized chip memory x z h = whenDone-sized (number slots (chip .control) (length memory) x) _ _
     (λ e. done-sized (chip .control) (chip .pixels) memory (readIn (chip .pixels) x) z (operation x)
     (accepted slots (chip .control) (length memory) x e .in-range) (word-given x h))
     z
