@@ -2,11 +2,10 @@
 use mathlib.Core.Path.{_≡_}
 use mathlib.Core.Bool.{Bool, true, false, not, cond, _&&_}
 use mathlib.Core.List.{List}
-use Prim.Native.Nat.{ℕ, _<_, _≤_}
+use Prim.Native.Nat.{ℕ, _<_}
 use native.Mathlib.Omega.{arith}
-use lib.Dec.{lit<, lit≤, eqb, ltb}
+use lib.Dec.{lit<, eqb, ltb}
 use lib.ListN.{length}
-use Rattle.bits.specs.Bits.{digit}
 use Rattle.layout.specs.declared.Pointed.{Pointed}
 use Rattle.layout.specs.declared.Column.{Column}
 use Rattle.layout.specs.declared.Filled.{Filled}
@@ -32,11 +31,6 @@ use Rattle.steps.proofs.Changes.{well-control}
 use Rattle.panel.specs.Packs.{numbered, pointPacked, pointGiven, columnPacked}
 
 -- ---- a call
-
--- pass and written are 0 or 1
-pub digit-le : (b : Bool) → digit b ≤ 1
-digit-le true = lit≤ tt
-digit-le false = lit≤ tt
 
 -- its number is 0 to 7
 pub number-lt : (s memory : List ℕ) (x : Call) → numberOf (blockAnswer s memory x) < 256

@@ -1,16 +1,16 @@
 -- `panel::pack_done` meets its contract. Assumes nothing.
 use Rattle.chip.specs.Answers.{packed, packedOf}
-use Rattle.panel.proofs.Packings.{digit-le}
+use Rattle.bits.proofs.Laws.{digit-lt}
 use native.Mathlib.Omega.{arith}
 use borrow.Author.Needs.{needs}
 use Rattle.panel.proofs.pack_done.Statement.{statement}
 use Rattle.panel.proofs.pack_done.Tie as tie
 
 mul-result-2 : tie.Need-mul-result-2
-mul-result-2 c = omega (arith, digit-le (c .before .before .args .pass), digit-le (c .before .before .args .written), c .before .digit-of .ensures, c .digit-of2 .ensures)
+mul-result-2 c = omega (arith, digit-lt (c .before .before .args .pass), digit-lt (c .before .before .args .written), c .before .digit-of .ensures, c .digit-of2 .ensures)
 
 add-result-2 : tie.Need-add-result-2
-add-result-2 c = omega (arith, digit-le (c .before .before .args .pass), digit-le (c .before .before .args .written), c .before .digit-of .ensures, c .digit-of2 .ensures)
+add-result-2 c = omega (arith, digit-lt (c .before .before .args .pass), digit-lt (c .before .before .args .written), c .before .digit-of .ensures, c .digit-of2 .ensures)
 
 returns : tie.Need-returns
 unfolding packedOf packed
