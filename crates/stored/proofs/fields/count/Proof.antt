@@ -4,7 +4,9 @@ use Rattle.stored.proofs.fields.count.Statement.{statement}
 use Rattle.stored.proofs.fields.count.Tie as tie
 
 returns : tie.Need-returns
-returns c = cc
+returns c =
+    let put = c .before .before in
+    rw (put .put-word .ensures, put .before .wrapping-add-u32 .ensures, put .before .before .before .word-at .ensures)
 
 pub count-spec : {M : Type 1} → statement M
 count-spec = tie.close (tie.spec (λ c κs. search needs) (λ c κs. search needs) (λ c κs. search needs) (λ c. search needs) returns)

@@ -16,7 +16,7 @@ add-result c =
     omega (arith, flags-four (a .picking) (a .hit), c .before .digit-of .ensures, c .digit-of2 .ensures)
 
 returns : tie.Need-returns
-returns c = cc
+returns c = rw (c .digit-of2 .ensures, c .before .digit-of .ensures)
 
 pub flags-spec : {M : Type 1} → statement M
 flags-spec = tie.close (tie.spec (λ c κs. search needs) (λ c κs. search needs) mul-result add-result returns)

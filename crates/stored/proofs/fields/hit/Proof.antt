@@ -6,7 +6,7 @@ use Rattle.stored.proofs.fields.hit.Tie as tie
 
 returns : tie.Need-returns
 unfolding decodeControl
-returns c = cc
+returns c = rw (c .bit-of .ensures, c .before .word-at .ensures)
 
 pub hit-spec : {M : Type 1} → statement M
 hit-spec = tie.close (tie.spec (λ c κs. search needs) (λ c κs. search needs) returns)

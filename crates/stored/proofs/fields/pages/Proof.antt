@@ -6,7 +6,7 @@ use Rattle.stored.proofs.fields.pages.Tie as tie
 
 returns : tie.Need-returns
 unfolding decodeControl
-returns c = cc
+returns c = c .half-at .ensures
 
 pub pages-spec : {M : Type 1} → statement M
 pages-spec = tie.close (tie.spec (λ c κs. search needs) returns)

@@ -6,7 +6,7 @@ use Rattle.stored.proofs.fields.picking.Tie as tie
 
 returns : tie.Need-returns
 unfolding decodeControl
-returns c = cc
+returns c = rw (c .bit-of .ensures, c .before .word-at .ensures)
 
 pub picking-spec : {M : Type 1} → statement M
 picking-spec = tie.close (tie.spec (λ c κs. search needs) (λ c κs. search needs) returns)

@@ -4,7 +4,9 @@ use Rattle.stored.proofs.fields.put_flags.Statement.{statement}
 use Rattle.stored.proofs.fields.put_flags.Tie as tie
 
 returns : tie.Need-returns
-returns c = cc
+returns c =
+    let put = c .before .before in
+    rw (put .put-word .ensures, put .before .flags .ensures)
 
 pub put-flags-spec : {M : Type 1} → statement M
 put-flags-spec = tie.close (tie.spec (λ c κs. search needs) (λ c κs. search needs) (λ c. search needs) returns)

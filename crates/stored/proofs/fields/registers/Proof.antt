@@ -7,7 +7,16 @@ use Rattle.stored.proofs.fields.registers.Tie as tie
 
 returns : tie.Need-returns
 unfolding register decodeControl wordsAt
-returns c = cc
+returns c =
+    rw (
+      c .register7 .ensures,
+      c .before .register6 .ensures,
+      c .before .before .register5 .ensures,
+      c .before .before .before .register4 .ensures,
+      c .before .before .before .before .register3 .ensures,
+      c .before .before .before .before .before .register2 .ensures,
+      c .before .before .before .before .before .before .register .ensures,
+    )
 
 pub registers-spec : {M : Type 1} → statement M
 registers-spec = tie.close (tie.spec (λ c κs. search needs) (λ c κs. search needs) (λ c κs. search needs) (λ c κs. search needs) (λ c κs. search needs) (λ c κs. search needs) (λ c κs. search needs) returns)

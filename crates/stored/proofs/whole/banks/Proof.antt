@@ -7,7 +7,13 @@ use Rattle.stored.proofs.whole.banks.Tie as tie
 
 returns : tie.Need-returns
 unfolding openPage decodeControl halvesAt
-returns c = cc
+returns c =
+    rw (
+      c .open-page4 .ensures,
+      c .before .open-page3 .ensures,
+      c .before .before .open-page2 .ensures,
+      c .before .before .before .open-page .ensures,
+    )
 
 pub banks-spec : {M : Type 1} → statement M
 banks-spec = tie.close (tie.spec (λ c κs. search needs) (λ c κs. search needs) (λ c κs. search needs) (λ c κs. search needs) returns)

@@ -6,7 +6,16 @@ use Rattle.stored.proofs.whole.control.Tie as tie
 
 returns : tie.Need-returns
 unfolding decodeControl
-returns c = cc
+returns c =
+    rw (
+      c .tags .ensures,
+      c .before .word-at .ensures,
+      c .before .before .hit .ensures,
+      c .before .before .before .picking .ensures,
+      c .before .before .before .before .registers .ensures,
+      c .before .before .before .before .before .banks .ensures,
+      c .before .before .before .before .before .before .pages .ensures,
+    )
 
 pub control-spec : {M : Type 1} → statement M
 control-spec = tie.close

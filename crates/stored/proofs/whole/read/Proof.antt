@@ -6,7 +6,7 @@ use Rattle.stored.proofs.whole.read.Tie as tie
 
 returns : tie.Need-returns
 unfolding decode
-returns c = cc
+returns c = rw (c .pixels .ensures, c .before .control .ensures)
 
 pub read-spec : {M : Type 1} → statement M
 read-spec = tie.close (tie.spec (λ c κs. search needs) (λ c κs. search needs) returns)

@@ -7,7 +7,17 @@ use Rattle.stored.proofs.whole.tags.Tie as tie
 
 returns : tie.Need-returns
 unfolding tagOf decodeControl wordsAt
-returns c = cc
+returns c =
+    rw (
+      c .tag8 .ensures,
+      c .before .tag7 .ensures,
+      c .before .before .tag6 .ensures,
+      c .before .before .before .tag5 .ensures,
+      c .before .before .before .before .tag4 .ensures,
+      c .before .before .before .before .before .tag3 .ensures,
+      c .before .before .before .before .before .before .tag2 .ensures,
+      c .before .before .before .before .before .before .before .tag .ensures,
+    )
 
 pub tags-spec : {M : Type 1} → statement M
 tags-spec = tie.close
