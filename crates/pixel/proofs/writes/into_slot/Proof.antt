@@ -11,7 +11,7 @@ returns : tie.Need-returns
 unfolding intoSlot register
 returns c =
     let a = c .before .before .before .before .args in
-    cc (by-data-law (a .t1) (a .w))
+    rw (c .pick .ensures, c .before .before .before .bit-of .ensures, by-data-law (a .t1) (a .w))
 
 pub into-slot-spec : {M : Type 1} → statement M
 into-slot-spec = tie.close (tie.spec (λ c. search needs) (λ c κs. search needs) (λ c. search needs) (λ c κs. search needs) returns)
