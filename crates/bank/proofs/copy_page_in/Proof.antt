@@ -10,11 +10,9 @@ returns c =
     let entry = c .before .before .before .before .before .before in
     let a = entry .args in
     let start = c .before .before .before .before .bank-start in
-    cc (
-      c .before .before .copy-page .ensures,
-      start .ensures .0,
-      copy-lent (a .pages) (a .bank) (a .from) (a .to) (a .memory .now) (entry .pre .3) (entry .pre .4) (omega (arith, start .ensures)),
-    )
+    rw (c .before .before .copy-page .ensures)
+    (rw (← (start .ensures .0)) at
+    (copy-lent (a .pages) (a .bank) (a .from) (a .to) (a .memory .now) (entry .pre .3) (entry .pre .4) (omega (arith, start .ensures))))
 
 pub copy-page-in-spec : {M : Type 1} → statement M
 copy-page-in-spec = tie.close

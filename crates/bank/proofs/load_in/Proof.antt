@@ -1,5 +1,5 @@
 -- `bank::load_in` meets its contract: what was read from the lent part, by `load-part`. Assumes nothing.
-use Rattle.bank.proofs.Parts.{part-is, load-part}
+use Rattle.bank.proofs.Parts.{load-part}
 use borrow.Author.Needs.{needs}
 use Rattle.bank.proofs.load_in.Statement.{statement}
 use Rattle.bank.proofs.load_in.Tie as tie
@@ -8,12 +8,8 @@ returns : tie.Need-returns
 returns c =
     let a = c .before .before .before .before .before .before .before .before .args in
     let start = c .before .before .before .before .before .bank-start in
-    cc (
-      c .before .before .load .ensures,
-      start .ensures .0,
-      part-is (a .memory .now) (start .result),
-      load-part (a .pages) (a .bank) (a .page) (a .block) (a .slot) (a .memory .now) (a .pixels .now),
-    )
+    rw (c .before .before .load .ensures)
+    (rw (← (start .ensures .0)) at (load-part (a .pages) (a .bank) (a .page) (a .block) (a .slot) (a .memory .now) (a .pixels .now)))
 
 pub load-in-spec : {M : Type 1} → statement M
 load-in-spec = tie.close

@@ -6,7 +6,7 @@ use Rattle.bank.proofs.bytes.half_at.Tie as tie
 
 returns : tie.Need-returns
 unfolding halfAt
-returns c = cc
+returns c = c .join-two .ensures
 
 pub half-at-spec : {M : Type 1} → statement M
 half-at-spec = tie.close (tie.spec (λ c. search needs) (λ c. search needs) (λ c. search needs) (λ c κs. search needs) returns)

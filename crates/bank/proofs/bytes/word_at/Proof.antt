@@ -6,7 +6,7 @@ use Rattle.bank.proofs.bytes.word_at.Tie as tie
 
 returns : tie.Need-returns
 unfolding wordAt
-returns c = cc
+returns c = c .join .ensures
 
 pub word-at-spec : {M : Type 1} → statement M
 word-at-spec = tie.close
