@@ -4,7 +4,7 @@ use Rattle.steps.proofs.operands.bank_fits.Statement.{statement}
 use Rattle.steps.proofs.operands.bank_fits.Tie as tie
 
 returns : tie.Need-returns
-returns c = cc
+returns c = rw (c .four-zero .ensures)
 
 pub bank-fits-spec : {M : Type 1} → statement M
 bank-fits-spec = tie.close (tie.spec (λ c κs. search needs) returns)

@@ -4,7 +4,7 @@ use Rattle.steps.proofs.operands.block_fits.Statement.{statement}
 use Rattle.steps.proofs.operands.block_fits.Tie as tie
 
 returns : tie.Need-returns
-returns c = cc
+returns c = rw (c .two-zero .ensures)
 
 pub block-fits-spec : {M : Type 1} → statement M
 block-fits-spec = tie.close (tie.spec (λ c κs. search needs) returns)

@@ -4,7 +4,7 @@ use Rattle.steps.proofs.operands.slot_fits.Statement.{statement}
 use Rattle.steps.proofs.operands.slot_fits.Tie as tie
 
 returns : tie.Need-returns
-returns c = cc
+returns c = rw (c .three-zero .ensures)
 
 pub slot-fits-spec : {M : Type 1} → statement M
 slot-fits-spec = tie.close (tie.spec (λ c κs. search needs) returns)
