@@ -7,7 +7,13 @@ use Rattle.chip.proofs.form.banks_fit.Tie as tie
 
 returns : tie.Need-returns
 unfolding every openPage
-returns c = cc
+returns c =
+    rw (
+      c .page-fits4 .ensures,
+      c .before .page-fits3 .ensures,
+      c .before .before .page-fits2 .ensures,
+      c .before .before .before .page-fits .ensures,
+    )
 
 pub banks-fit-spec : {M : Type 1} → statement M
 banks-fit-spec = tie.close (tie.spec (λ c. search needs) (λ c κs. search needs) (λ c. search needs) (λ c κs. search needs) (λ c. search needs) (λ c κs. search needs) (λ c. search needs) (λ c κs. search needs) returns)

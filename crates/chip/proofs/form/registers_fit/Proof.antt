@@ -1,4 +1,5 @@
 -- `chip::form::registers_fit` meets its contract: registers 1 to 4 hold any bits. Assumes nothing.
+use mathlib.Core.Path.{sym}
 use Prim.Native.Nat.{ℕ, _<_, _^_}
 use lib.ListN.{getD}
 use mir.Syntax.{w32}
@@ -13,7 +14,9 @@ fit : (c : tie.Start) (n : ℕ) → getD (c .args .t1) n 0 < 2 ^ 32
 fit c n = let f : Fits w32 (getD (c .args .t1) n 0) = search needs in f .fits
 
 returns : tie.Need-returns
-returns c = cc (register-test (c .before .before .before .args .t1) (fit (c .before .before .before)))
+returns c =
+    let start = c .before .before .before in
+    rw (c .within3 .ensures, c .before .within2 .ensures, c .before .before .within .ensures) (sym (register-test (start .args .t1) (fit start)))
 
 pub registers-fit-spec : {M : Type 1} → statement M
 registers-fit-spec = tie.close (tie.spec (λ c. search needs) (λ c κs. search needs) (λ c. search needs) (λ c κs. search needs) (λ c. search needs) (λ c κs. search needs) returns)

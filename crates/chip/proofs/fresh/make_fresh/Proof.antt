@@ -28,7 +28,7 @@ cast-fresh c =
 
 returns-2 : tie.Need-returns-2
 unfolding freshAnswered freshNumber first
-returns-2 c = rw (fits (c .before)) cc
+returns-2 c = rw (fits (c .before), c .fresh .ensures)
 
 pub make-fresh-spec : {M : Type 1} → statement M
 make-fresh-spec = tie.close (tie.spec (λ c κs. search needs) returns cast-fresh (λ c κs. search needs) returns-2)
