@@ -8,17 +8,17 @@ use Rattle.lines.proofs.reader.digit.Tie as tie
 returns : tie.Need-returns
 returns c =
     let a = c .before .before .before .before .args in
-    cc (digit-too-many (a .reader) (a .byte) (omega arith))
+    rw (c .spoil .ensures, digit-too-many (a .reader) (a .byte) (omega arith))
 
 returns-2 : tie.Need-returns-2
 returns-2 c =
     let a = c .before .before .before .before .before .args in
-    cc (digit-too-much (a .reader) (a .byte) (omega arith))
+    rw (c .spoil2 .ensures, digit-too-much (a .reader) (a .byte) (omega arith))
 
 returns-3 : tie.Need-returns-3
 returns-3 c =
     let a = c .before .before .before .before .before .before .args in
-    cc (digit-taken (a .reader) (a .byte) (omega arith) (omega arith))
+    rw (digit-taken (a .reader) (a .byte) (omega arith) (omega arith))
 
 pub digit-spec : {M : Type 1} → statement M
 digit-spec = tie.close

@@ -11,7 +11,9 @@ returns c = rw (not-true (complete (c .before .before .before .before .args .rea
 
 returns-2 : tie.Need-returns-2
 unfolding ended
-returns-2 c = rw (not-false (complete (c .before .before .before .before .before .before .args .reader)) (c .before .before .if1 .left)) cc
+returns-2 c =
+    let reader = c .before .before .before .before .before .before .args .reader in
+    rw (not-false (complete reader) (c .before .before .if1 .left), c .push .ensures)
 
 pub finish-spec : {M : Type 1} → statement M
 finish-spec = tie.close (tie.spec returns (λ c κs. search needs) returns-2)

@@ -6,13 +6,15 @@ use Rattle.lines.proofs.reader.space.Statement.{statement}
 use Rattle.lines.proofs.reader.space.Tie as tie
 
 returns : tie.Need-returns
-returns c = cc (space-too-soon (c .before .before .before .args .reader) (omega arith))
+returns c = rw (c .spoil .ensures, space-too-soon (c .before .before .before .args .reader) (omega arith))
 
 returns-2 : tie.Need-returns-2
-returns-2 c = cc (space-too-late (c .before .before .before .before .before .args .reader) (omega arith))
+returns-2 c = rw (c .spoil2 .ensures, space-too-late (c .before .before .before .before .before .args .reader) (omega arith))
 
 returns-3 : tie.Need-returns-3
-returns-3 c = cc (space-ends (c .before .before .before .before .before .before .before .args .reader) (omega arith) (omega arith))
+returns-3 c =
+    let reader = c .before .before .before .before .before .before .before .args .reader in
+    rw (c .push .ensures, space-ends reader (omega arith) (omega arith))
 
 pub space-spec : {M : Type 1} → statement M
 space-spec = tie.close (tie.spec (λ c κs. search needs) returns (λ c κs. search needs) returns-2 (λ c. search needs) (λ c κs. search needs) returns-3)
