@@ -1,8 +1,8 @@
 -- The column table's answers have the paper's numbers and entries, and its bytes are those of its entries. Assumes nothing.
-use mathlib.Core.Path.{_≡_, refl, _∙_}
+use mathlib.Core.Path.{_≡_, refl, ap₂, _∙_}
 use mathlib.Core.Bool.{Bool, true, false, cond, not}
 use mathlib.Core.List.{[], _∷_}
-use Prim.Native.Nat.{ℕ, _+_, _*_, _/_, _%_, _<_}
+use Prim.Native.Nat.{ℕ, _+_, _*_, _/_, _%_, _^_, _<_}
 use native.Mathlib.Nat.{div-one, mod-eq-of-lt}
 use native.Mathlib.Omega.{arith}
 use lib.Dec.{eqb, ltb}
@@ -47,14 +47,14 @@ unfolding columnByte
 lower-byte x =
     let entry : 2 * x / 2 ≡ x = omega arith in
     let byte : 2 * x % 2 ≡ 0 = omega arith in
-    rw (entry, byte, div-one)
+    ap₂ (λ (e b : ℕ). columnEntry e / 256 ^ b % 256) entry byte ∙ rw div-one
 
 pub upper-byte : (x : ℕ) → x < 1280 → columnByte (2 * x + 1) ≡ columnEntry x / 256
 unfolding columnByte
 upper-byte x h =
     let entry : (2 * x + 1) / 2 ≡ x = omega arith in
     let byte : (2 * x + 1) % 2 ≡ 1 = omega arith in
-    rw (entry, byte) (mod-eq-of-lt (omega (arith, entry-lt x h)))
+    ap₂ (λ (e b : ℕ). columnEntry e / 256 ^ b % 256) entry byte ∙ mod-eq-of-lt (omega (arith, entry-lt x h))
 
 -- who reads an entry out of the bytes has the table's
 pub entry-read-back : (x : ℕ) → x < 1280 → getD columnBytes (2 * x) 0 + getD columnBytes (2 * x + 1) 0 * 256 ≡ columnEntry x
