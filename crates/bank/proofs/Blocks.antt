@@ -11,10 +11,10 @@ use Rattle.pixel.specs.Pixel.{mergeWord}
 use Rattle.pixel.proofs.Uses.{byte-merge}
 use Rattle.layout.specs.Memory.{inBank, onLine, lineOf, columnOf, inPage}
 use Rattle.layout.proofs.Places.{inPage-lt}
-use Rattle.bank.specs.Update.{update}
-use Rattle.bank.specs.Words.{wordAt, putWord}
+use Rattle.lists.specs.Update.{update}
+use Rattle.lists.specs.Words.{wordAt, putWord}
 use Rattle.bank.specs.Work.{inSlot, backByte}
-use Rattle.bank.proofs.Words.{byte-word-at, word-turn}
+use Rattle.lists.proofs.Words.{byte-word-at, word-turn}
 
 -- the four bytes of a word lie side by side: a line has a whole number of words
 in-line : (w n : ℕ) → n < 4 → (4 * w + n) / 8 ≡ 4 * w / 8

@@ -1,1 +1,1 @@
-pub mod Wholes
+pub mod ByLine

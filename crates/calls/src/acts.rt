@@ -1,21 +1,21 @@
 // A call on a block and a memory, whole: every input is answered, and a refusal changes no byte.
+use block::fields;
+use block::form;
+use buffer::registers;
+use buffer::slots;
+use buffer::writes;
 use chip::Answer;
 use chip::Call;
 use chip::Refusal;
-use drawing::registers;
-use drawing::slots;
-use drawing::writes;
 use paging::blocks;
 use paging::pages;
-use stored::fields;
-use stored::form;
 ghost use mathlib.Core.Path.{_≡_};
 ghost use mathlib.Core.Bool.{true};
 ghost use Prim.Native.Nat.{_≤_};
 ghost use lib.ListN.{length};
 ghost use Rattle.layout.specs.Memory.{size};
-ghost use Rattle.stored.specs.Block.{decodeControl, wellFormedBlock};
-ghost use Rattle.stored.specs.Doors.{blockAnswer, blockAfter, blockMemory};
+ghost use Rattle.block.specs.Block.{decodeControl, wellFormedBlock};
+ghost use Rattle.block.specs.OnBlock.{blockAnswer, blockAfter, blockMemory};
 
 // Each operation but the stateful writes, and the refusal of a number that no operation has.
 fn other(s: &mut [u8], memory: &mut [u8], x: Call) -> Answer

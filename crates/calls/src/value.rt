@@ -3,7 +3,6 @@ use super::acts;
 use chip::Answered;
 use chip::Call;
 use chip::Chip;
-use stored::whole;
 ghost use mathlib.Core.Path.{_≡_};
 ghost use Rattle.chip.specs.Calls.{answeredOf, memoryOf};
 
@@ -11,10 +10,10 @@ pub fn perform(chip: Chip, memory: &mut [u8], x: Call) -> Answered
     ensures { λ r. ⌜ (r ≡ answeredOf chip (now (memory .entry)) x) × (now (memory .exit) ≡ memoryOf chip (now (memory .entry)) x) ⌝ }
 {
     let mut s = [0u8; 348];
-    whole::store(&mut s, chip);
+    stored::store(&mut s, chip);
     let answer = acts::act(&mut s, memory, x);
     Answered {
         answer,
-        chip: whole::read(&s),
+        chip: stored::read(&s),
     }
 }

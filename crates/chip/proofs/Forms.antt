@@ -11,7 +11,7 @@ use lib.Dec.{eqb, leb, ltb}
 use lib.ListN.{getD}
 use borrow.Author.Tests.{eq-eqb, ne-eqb, le-leb}
 use Rattle.bits.specs.Bits.{every, within}
-use Rattle.layout.specs.Numbers.{first}
+use Rattle.numbers.specs.Numbers.{first}
 use Rattle.layout.specs.Memory.{lineNumber}
 use Rattle.layout.proofs.Lines.{line-number-formed}
 use Rattle.chip.specs.declared.Control.{Control}

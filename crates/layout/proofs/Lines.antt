@@ -8,9 +8,9 @@ use native.Mathlib.Omega.{arith}
 use lib.Dec.{eqb, leb, ltb}
 use lib.ListN.{length, length-take, length-drop}
 use borrow.Author.Tests.{ltb-true, leb-true, eqb-true, not-false}
-use Rattle.layout.specs.Numbers.{first, pagesFit}
-use Rattle.layout.specs.Memory.{size, inBank, place, onLine, lineStart, scanLine, lineNumber, lineGiven}
-use Rattle.layout.proofs.Numbers.{none-applies, and-left, and-right, given-done, given-refused}
+use Rattle.numbers.specs.Numbers.{first}
+use Rattle.layout.specs.Memory.{pagesFit, size, inBank, place, onLine, lineStart, scanLine, lineNumber, lineGiven}
+use Rattle.numbers.proofs.Tests.{none-applies, and-left, and-right, given-done, given-refused}
 use Rattle.layout.proofs.Places.{place-lt}
 
 pub on-line-lt : (line column : ℕ) → line < 16 → column < 80 → onLine line column < 1280

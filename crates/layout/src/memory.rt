@@ -2,8 +2,7 @@
 ghost use mathlib.Core.Path.{_≡_};
 ghost use Prim.Native.Nat.{_+_, _<_, _≤_};
 ghost use lib.ListN.{length};
-ghost use Rattle.layout.specs.Numbers.{pagesFit};
-ghost use Rattle.layout.specs.Memory.{size, inPage, lineStart, lineNumber, lineGiven};
+ghost use Rattle.layout.specs.Memory.{pagesFit, size, inPage, lineStart, lineNumber, lineGiven};
 
 pub const LINE_BYTES: usize = 80;
 

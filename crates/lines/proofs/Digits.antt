@@ -9,7 +9,7 @@ use native.Mathlib.Omega.{arith}
 use lib.Dec.{ltb}
 use lib.ListN.{length, getD, length-append, List·getD-append}
 use borrow.Author.Tests.{lt-ltb, le-ltb, le-leb}
-use Rattle.layout.proofs.Numbers.{and-left, and-right}
+use Rattle.numbers.proofs.Tests.{and-left, and-right}
 use Rattle.lines.specs.Lines.{isDigit, allDigits, decimal, isNumber}
 use Rattle.lines.specs.Printing.{digitsIn, digitsOf, printedNumber, printedLine}
 

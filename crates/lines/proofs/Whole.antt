@@ -11,7 +11,7 @@ use lib.Dec.{eqb, leb, ltb, eqb·suc-suc}
 use lib.ListN.{length, getD, drop, drop-of-length-le}
 use lib.Seq.{drop-cons}
 use borrow.Author.Tests.{lt-ltb, le-ltb, le-leb, lt-leb, ne-eqb, eqb-true}
-use Rattle.layout.specs.Numbers.{first, whenDone}
+use Rattle.numbers.specs.Numbers.{first, whenDone}
 use Rattle.chip.specs.declared.Call.{Call}
 use Rattle.chip.specs.Operations.{ask}
 use Rattle.lines.specs.declared.reader.Reader.{Reader}

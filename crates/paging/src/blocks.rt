@@ -1,10 +1,10 @@
 // Read block, masked and unmasked write block.
+use block::fields;
 use chip::Answer;
 use chip::Call;
 use chip::Refusal;
-use steps::done;
-use steps::operands;
-use stored::fields;
+use own::done;
+use own::operands;
 ghost use mathlib.Core.Path.{_≡_};
 ghost use mathlib.Core.Bool.{true};
 ghost use Prim.Native.Nat.{_+_, _<_, _≤_};
@@ -12,12 +12,12 @@ ghost use lib.Dec.{eqb};
 ghost use lib.ListN.{length, getD, drop};
 ghost use Rattle.layout.specs.Memory.{size, address};
 ghost use Rattle.pixel.specs.Registers.{planeMask};
-ghost use Rattle.bank.specs.Update.{update};
+ghost use Rattle.lists.specs.Update.{update};
 ghost use Rattle.bank.specs.Work.{inSlot, backMask, writtenBack};
 ghost use Rattle.chip.specs.State.{openPage};
 ghost use Rattle.chip.specs.Steps.{tagOf, slotByte};
-ghost use Rattle.stored.specs.Block.{pixelsAt, decodeControl, wellFormedBlock};
-ghost use Rattle.steps.specs.Own.{ownAnswer, ownBlock, ownMemory};
+ghost use Rattle.block.specs.Block.{pixelsAt, decodeControl, wellFormedBlock};
+ghost use Rattle.own.specs.Own.{ownAnswer, ownBlock, ownMemory};
 
 // The block that a call names, into its slot where the slot lies.
 fn load_slot(s: &mut [u8], memory: &[u8], x: Call)

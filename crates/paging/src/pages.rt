@@ -1,18 +1,18 @@
 // Access, precharge and duplicate page.
+use block::fields;
 use chip::Answer;
 use chip::Call;
 use chip::Refusal;
-use steps::done;
-use steps::operands;
-use stored::fields;
+use own::done;
+use own::operands;
 ghost use mathlib.Core.Path.{_≡_};
 ghost use mathlib.Core.Bool.{true};
 ghost use mathlib.Core.List.{List};
 ghost use Prim.Native.Nat.{ℕ};
 ghost use lib.ListN.{length};
 ghost use Rattle.layout.specs.Memory.{size};
-ghost use Rattle.stored.specs.Block.{decodeControl, wellFormedBlock};
-ghost use Rattle.steps.specs.Own.{ownAnswer, ownBlock, ownMemory};
+ghost use Rattle.block.specs.Block.{decodeControl, wellFormedBlock};
+ghost use Rattle.own.specs.Own.{ownAnswer, ownBlock, ownMemory};
 
 // Opens a closed bank at a page.
 pub fn access(s: &mut [u8], x: Call) -> Answer

@@ -7,14 +7,14 @@ use native.Mathlib.Omega.{arith}
 use lib.Dec.{lit<, eqb, ltb}
 use lib.ListN.{length}
 use Rattle.layout.specs.declared.Pointed.{Pointed}
-use Rattle.layout.specs.declared.Column.{Column}
-use Rattle.layout.specs.declared.Filled.{Filled}
-use Rattle.layout.specs.Numbers.{first, pagesFit}
-use Rattle.layout.specs.Memory.{lineNumber, size}
+use Rattle.columns.specs.declared.Column.{Column}
+use Rattle.columns.specs.declared.Filled.{Filled}
+use Rattle.numbers.specs.Numbers.{first}
+use Rattle.layout.specs.Memory.{pagesFit, lineNumber, size}
 use Rattle.layout.specs.Screen.{pointedOf, pointedNumber, pointedAt}
-use Rattle.layout.specs.Columns.{columnFound, foundNumber, foundEntry, columnsNumber, filledOf, filledNumber}
+use Rattle.columns.specs.Columns.{columnFound, foundNumber, foundEntry, columnsNumber, filledOf, filledNumber}
 use Rattle.layout.proofs.Points.{pointed-number, pointed-at}
-use Rattle.layout.proofs.Entries.{found-number, found-entry, filled-number}
+use Rattle.columns.proofs.Columns.{found-number, found-entry, filled-number}
 use Rattle.chip.specs.declared.Answer.{Answer}
 use Rattle.chip.specs.declared.Answer.the-variants.{Refused}
 use Rattle.chip.specs.declared.Refusal.{Refusal}
@@ -23,11 +23,11 @@ use Rattle.chip.specs.declared.Call.{Call}
 use Rattle.chip.specs.State.{slots}
 use Rattle.chip.specs.Answers.{numberOf, packed, packedOf}
 use Rattle.chip.specs.Calls.{answeredOf}
-use Rattle.chip.proofs.Numbers as numbers
+use Rattle.chip.proofs.NumbersGiven as numbers
 use Rattle.chip.proofs.Forms as forms
-use Rattle.stored.specs.Block.{decodeControl, decode, wellFormedBlock}
-use Rattle.stored.specs.Doors.{blockAnswer, blockLineNumber}
-use Rattle.steps.proofs.Changes.{well-control}
+use Rattle.block.specs.Block.{decodeControl, decode, wellFormedBlock}
+use Rattle.block.specs.OnBlock.{blockAnswer, blockLineNumber}
+use Rattle.own.proofs.Changes.{well-control}
 use Rattle.panel.specs.Packs.{numbered, pointPacked, pointGiven, columnPacked}
 
 -- ---- a call

@@ -2,13 +2,13 @@
 use mathlib.Core.List.{List}
 use Prim.Native.Nat.{ℕ, _+_, _*_, _^_}
 use Rattle.layout.specs.declared.Point.{Point}
-use Rattle.layout.specs.Numbers.{whenDone}
+use Rattle.numbers.specs.Numbers.{whenDone}
 use Rattle.layout.specs.Memory.{lineStart}
 use Rattle.layout.specs.Screen.{pointNumber, pointOf}
-use Rattle.layout.specs.Columns.{columnNumber, columnGiven}
+use Rattle.columns.specs.Columns.{columnNumber, columnGiven}
 use Rattle.chip.specs.Answers.{packed}
-use Rattle.stored.specs.Block.{decodeControl}
-use Rattle.stored.specs.Doors.{freshBlockNumber, blockLineNumber}
+use Rattle.block.specs.Block.{decodeControl}
+use Rattle.block.specs.OnBlock.{freshBlockNumber, blockLineNumber}
 
 -- a number alone: value, pass and written are 0
 unfoldable pub numbered : ℕ → ℕ

@@ -1,17 +1,17 @@
 // The door for C callers: numbers and byte buffers in, one 64-bit number out. include/panel.h declares these functions.
 use chip::Answer;
 use chip::Call;
-use layout::Column;
-use layout::Filled;
+use columns::Column;
+use columns::Filled;
 use layout::Point;
 use layout::Pointed;
 ghost use mathlib.Core.Path.{_≡_};
 ghost use Prim.Native.Nat.{_<_};
 ghost use lib.ListN.{length};
-ghost use Rattle.layout.specs.Columns.{columnsNumber, columnsLeft};
+ghost use Rattle.columns.specs.Columns.{columnsNumber, columnsLeft};
 ghost use Rattle.chip.specs.Answers.{packed, packedOf};
 ghost use Rattle.chip.specs.Operations.{ask};
-ghost use Rattle.stored.specs.Doors.{callNumber, blockAfter, blockMemory, freshBlock};
+ghost use Rattle.block.specs.OnBlock.{callNumber, blockAfter, blockMemory, freshBlock};
 ghost use Rattle.panel.specs.Packs.{numbered, freshGiven, lineOffset, pointPacked, pointGiven, columnPacked};
 
 // Value in bits 31:0, pass in 32, written in 33.
@@ -79,7 +79,7 @@ pub extern "C" fn panel_fresh(state: &mut [u8], pages: u32) -> u64
     if !layout::memory::pages_fit(pages) {
         return pack(0, 4);
     }
-    stored::whole::store(state, chip::fresh::fresh(pages as u16));
+    stored::store(state, chip::fresh::fresh(pages as u16));
     pack(0, 0)
 }
 
@@ -94,10 +94,10 @@ pub extern "C" fn panel_scan_line(
 ) -> u64
     ensures { λ r. ⌜ r ≡ lineOffset (now (state .entry)) (now (memory .entry)) bank page line ⌝ }
 {
-    if !stored::form::well_formed(state) {
+    if !block::form::well_formed(state) {
         return pack(0, 1);
     }
-    let pages = stored::fields::pages(state) as u32;
+    let pages = block::fields::pages(state) as u32;
     let number = layout::memory::line_number(memory.len(), pages, bank, page, line);
     if number != 0 {
         return pack(0, number);
@@ -134,7 +134,7 @@ pub extern "C" fn panel_point(pages: u32, x: u32, y: u32) -> u64
 pub extern "C" fn panel_column(x: u32) -> u64
     ensures { λ r. ⌜ r ≡ columnPacked x ⌝ }
 {
-    let found = layout::columns::column(x);
+    let found = columns::entries::column(x);
     match found {
         Column::Entry(entry) => pack(entry as u32, 0),
         Column::OffScreen => pack(0, 8),
@@ -146,7 +146,7 @@ pub extern "C" fn panel_column(x: u32) -> u64
 pub extern "C" fn panel_columns(table: &mut [u8]) -> u64
     ensures { λ r. ⌜ (r ≡ numbered (columnsNumber (length (now (table .entry))))) × (now (table .exit) ≡ columnsLeft (now (table .entry))) ⌝ }
 {
-    let filled = layout::columns::fill(table);
+    let filled = columns::entries::fill(table);
     match filled {
         Filled::Whole => pack(0, 0),
         Filled::WrongLength => pack(0, 4),

@@ -6,7 +6,7 @@ use Prim.Native.Nat.{ℕ, zero, suc, _≤_}
 use native.Mathlib.Omega.{arith}
 use lib.Dec.{eqb}
 use lib.ListN.{length, replicate}
-use Rattle.layout.specs.Numbers.{whenDone}
+use Rattle.numbers.specs.Numbers.{whenDone}
 use Rattle.layout.specs.Memory.{size}
 use Rattle.chip.specs.declared.Chip.{Chip}
 use Rattle.chip.specs.State.{freshOf}

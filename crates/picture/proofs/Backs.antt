@@ -11,8 +11,8 @@ use lib.Seq.{getD-set-same, getD-set-other}
 use Rattle.bits.specs.Bits.{bit}
 use Rattle.bits.proofs.Merges.{merge-same}
 use Rattle.layout.specs.Memory.{address}
-use Rattle.bank.specs.Update.{update}
-use Rattle.bank.proofs.Updates.{length-update, update-other, update-same, find}
+use Rattle.lists.specs.Update.{update}
+use Rattle.lists.proofs.Updates.{length-update, update-other, update-same, find}
 use Rattle.picture.specs.Book.{at, Book, stands, Waits}
 use Rattle.picture.proofs.Holds.{at-inj, not-waiting, Free, UnderMask, Holds, same-byte, stands-lt, at-lt}
 

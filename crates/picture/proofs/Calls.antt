@@ -13,7 +13,7 @@ use borrow.Author.Tests.{leb-true}
 use Rattle.bits.specs.Bits.{bit, byte}
 use Rattle.bits.proofs.Bytes.{word-same}
 use Rattle.bits.proofs.Merges.{merge-off, merge-again, byte-merge-lt}
-use Rattle.layout.proofs.Numbers.{and-left}
+use Rattle.numbers.proofs.Tests.{and-left}
 use Rattle.bank.specs.Work.{inSlot, loaded, backByte, backMask, writtenBack, copied}
 use Rattle.bank.proofs.Backs.{back-leaves, back-settles}
 use Rattle.chip.specs.declared.Control.{Control}
@@ -24,7 +24,7 @@ use Rattle.pixel.specs.declared.Write.{Write}
 use Rattle.chip.specs.Operations.{Operation, access, precharge, duplicate, readBlock, writeBlock, dataRead, dataWrite, writeTag, writeRegister, readRegister, unknown, operation, inRange}
 use Rattle.pixel.proofs.Outcomes.{into-word-lt}
 use Rattle.pixel.specs.Writes.{used, intoSlot, intoWord, taken, result, newByte}
-use Rattle.chip.specs.Writes.{painted, tagWith}
+use Rattle.chip.specs.Painting.{painted, tagWith}
 use Rattle.chip.specs.Steps.{withTag, withRegister, counted, tagOf, control-after, pixels-after, memory-after, slotByte, oldWord}
 use Rattle.chip.specs.Refusals.{onClosed}
 use Rattle.chip.specs.Calls.{readIn}

@@ -6,8 +6,8 @@ use Prim.Native.Nat.{ℕ, _^_, _<_}
 use lib.ListN.{getD, length}
 use Rattle.layout.specs.Memory.{place, address, size, inPage}
 use Rattle.layout.proofs.Places.{place-inj, place-lt, inPage-lt}
-use Rattle.bank.specs.Update.{update}
-use Rattle.bank.proofs.Updates.{length-update, update-other, update-same, update-all, find}
+use Rattle.lists.specs.Update.{update}
+use Rattle.lists.proofs.Updates.{length-update, update-other, update-same, update-all, find}
 use Rattle.picture.specs.Book.{at, Book, stands}
 use Rattle.picture.proofs.Holds.{Free, Holds}
 

@@ -8,7 +8,7 @@ use native.Mathlib.Omega.{arith}
 use lib.Dec.{leb}
 use lib.ListN.{length}
 use borrow.Author.Tests.{eq-eqb}
-use Rattle.layout.specs.Numbers.{first}
+use Rattle.numbers.specs.Numbers.{first}
 use Rattle.layout.specs.Memory.{size}
 use Rattle.chip.specs.declared.Control.{Control}
 use Rattle.chip.specs.declared.Call.{Call}

@@ -8,7 +8,7 @@ use lib.Dec.{eqb}
 use lib.ListN.{getD, set}
 use lib.Seq.{getD-set-other}
 use borrow.Author.Tests.{eq-eqb, ne-eqb, eqb-true, not-true, not-false}
-use Rattle.layout.proofs.Numbers.{and-left, and-right}
+use Rattle.numbers.proofs.Tests.{and-left, and-right}
 use Rattle.pixel.specs.Registers.{planeMask}
 use Rattle.pixel.specs.Writes.{intoSlot}
 use Rattle.chip.specs.declared.Control.{Control}

@@ -12,8 +12,8 @@ use Rattle.bits.specs.Bits.{bit}
 use Rattle.bits.proofs.Merges.{merge-same}
 use Rattle.layout.specs.Memory.{address}
 use Rattle.layout.proofs.Places.{address-inj}
-use Rattle.bank.specs.Update.{update}
-use Rattle.bank.proofs.Updates.{length-update, update-other, update-same}
+use Rattle.lists.specs.Update.{update}
+use Rattle.lists.proofs.Updates.{length-update, update-other, update-same}
 use Rattle.picture.specs.Book.{none, at, Book, stands, Waits}
 use Rattle.picture.proofs.Holds.{at-inj, not-waiting, Free, UnderMask, Holds}
 

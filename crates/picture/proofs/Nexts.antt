@@ -4,7 +4,7 @@ use mathlib.Core.List.{List}
 use Prim.Native.Nat.{ℕ, suc}
 use lib.ListN.{length}
 use Rattle.bank.specs.Work.{writtenBack, copied}
-use Rattle.bank.proofs.Updates.{length-update}
+use Rattle.lists.proofs.Updates.{length-update}
 use Rattle.chip.specs.declared.Control.{Control}
 use Rattle.chip.specs.declared.Call.{Call}
 use Rattle.chip.specs.Operations.{Operation, access, precharge, duplicate, readBlock, writeBlock, dataRead, dataWrite, writeTag, writeRegister, readRegister, unknown, operation}

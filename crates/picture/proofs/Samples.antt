@@ -8,17 +8,18 @@ use native.Mathlib.Omega.{arith}
 use lib.Dec.{ltb, lit<}
 use borrow.Author.Tests.{lt-ltb, le-leb}
 use Rattle.bits.specs.Bits.{bit, word, within}
-use Rattle.layout.specs.Numbers.{first, pagesFit}
+use Rattle.numbers.specs.Numbers.{first}
+use Rattle.layout.specs.Memory.{pagesFit}
 use Rattle.pixel.specs.Pixel.{matchTest, magnitudeTest, matchPasses, magnitudePasses, enabledBy}
 use Rattle.pixel.specs.Registers.{register, freshRegisters}
 use Rattle.pixel.specs.Writes.{used, intoSlot, intoWord, passesMatch, passesMagnitude, enabled, taken}
 use Rattle.chip.specs.declared.Call.{Call}
 use Rattle.chip.specs.State.{slots, closed, openPage, isClosed, writable, freshControl, freshWith}
 use Rattle.chip.specs.Operations.{row, operation, allZero, inRange}
-use Rattle.chip.specs.Writes.{marked, tagWith}
+use Rattle.chip.specs.Painting.{marked, tagWith}
 use Rattle.chip.specs.Steps.{counted, switched, withRegister, control-after}
 use Rattle.chip.specs.Refusals.{badBits, onOpen, onClosed, operandsFit, callTests}
-use Rattle.chip.specs.Starred.{listing}
+use Rattle.chip.specs.Listing.{listing}
 use Rattle.chip.proofs.Stays.{fresh-well-formed}
 use Rattle.picture.specs.Book.{note, blank}
 use Rattle.picture.specs.Flat.{flatFresh}

@@ -10,9 +10,9 @@ use lib.ListN.{getD}
 use borrow.Author.Tests.{eq-eqb}
 use Rattle.bits.specs.Bits.{bit, digit}
 use Rattle.layout.specs.Memory.{size, address}
-use Rattle.layout.proofs.Numbers.{and-left, and-right}
+use Rattle.numbers.proofs.Tests.{and-left, and-right}
 use Rattle.layout.proofs.Places.{address-inj, address-onto}
-use Rattle.bank.proofs.Updates.{find}
+use Rattle.lists.proofs.Updates.{find}
 use Rattle.picture.specs.Book.{at, Book, stands, waiting, Waits}
 use Rattle.picture.specs.Drawing.{start, OnlyWaitingDiffer}
 use Rattle.picture.proofs.Holds.{Free, Holds, stands-lt}

@@ -11,9 +11,9 @@ use lib.ListN.{getD, set, length-set}
 use lib.Seq.{getD-set-same, getD-set-other}
 use Rattle.bits.specs.Bits.{bit}
 use Rattle.layout.specs.Memory.{address}
-use Rattle.bank.specs.Update.{update}
-use Rattle.bank.proofs.Updates.{length-update, update-other, update-same, update-all, find}
-use Rattle.chip.specs.Writes.{marked}
+use Rattle.lists.specs.Update.{update}
+use Rattle.lists.proofs.Updates.{length-update, update-other, update-same, update-all, find}
+use Rattle.chip.specs.Painting.{marked}
 use Rattle.chip.proofs.Tags.{marked-stays, marked-new, marked-more}
 use Rattle.picture.specs.Book.{at, Book, stands, Waits}
 use Rattle.picture.proofs.Holds.{at-inj, Free, UnderMask, Holds, same-byte, stands-lt, at-lt}

@@ -7,7 +7,7 @@ use Rattle.layout.specs.Memory.{size}
 use Rattle.chip.specs.declared.Call.{Call}
 use Rattle.chip.specs.State.{slots}
 use Rattle.chip.specs.Operations.{ask}
-use Rattle.chip.specs.Starred.{listing}
+use Rattle.chip.specs.Listing.{listing}
 use Rattle.picture.specs.Drawing.{start, Settles}
 
 -- on a fresh chip of P pages a bank, over any memory

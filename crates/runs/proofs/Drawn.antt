@@ -8,7 +8,7 @@ use Rattle.chip.specs.declared.Call.{Call}
 use Rattle.chip.specs.State.{slots, freshOf}
 use Rattle.chip.specs.Operations.{operation}
 use Rattle.chip.specs.Calls.{answeredOf, memoryOf}
-use Rattle.chip.specs.Starred.{listing}
+use Rattle.chip.specs.Listing.{listing}
 use Rattle.picture.specs.Drawing.{World, Seen, seen, start, next, after, chipSeen, Bytes, DrawingAgrees, Settles}
 use Rattle.picture.specs.Samples.{panes, SettlesOver, ListingSettles, PanesSettle}
 use Rattle.picture.proofs.Agree.{start-holds, run-holds, drawing-agrees}

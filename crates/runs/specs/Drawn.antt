@@ -9,7 +9,7 @@ use Rattle.chip.specs.declared.Call.{Call}
 use Rattle.chip.specs.State.{slots, freshOf}
 use Rattle.chip.specs.Operations.{operation}
 use Rattle.chip.specs.Calls.{answeredOf, memoryOf}
-use Rattle.chip.specs.Starred.{listing}
+use Rattle.chip.specs.Listing.{listing}
 use Rattle.picture.specs.Book.{Book, NoneWaits}
 use Rattle.picture.specs.Flat.{Flat}
 use Rattle.picture.specs.Drawing.{Seen, seen, start, after, flatSeen, Fair, Bytes}

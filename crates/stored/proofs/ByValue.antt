@@ -3,7 +3,7 @@ use mathlib.Core.Path.{_≡_, refl, sym, ap, _∙_}
 use mathlib.Core.Bool.{Bool, true, false, cond}
 use mathlib.Core.List.{List}
 use Prim.Native.Nat.{ℕ, _^_, _<_}
-use Rattle.layout.specs.Numbers.{first}
+use Rattle.numbers.specs.Numbers.{first}
 use Rattle.chip.specs.declared.Answer.the-variants.{Refused}
 use Rattle.chip.specs.declared.Answered.{Answered}
 use Rattle.chip.specs.declared.Call.{Call}
@@ -13,10 +13,10 @@ use Rattle.chip.specs.State.{wellFormed}
 use Rattle.chip.specs.Answers.{refusalOf}
 use Rattle.chip.specs.Refusals.{number}
 use Rattle.chip.specs.Calls.{answeredWith, memoryWith, answeredOf, memoryOf}
-use Rattle.stored.specs.Block.{encode, decode}
-use Rattle.stored.specs.Doors.{blockAnswer, blockAfter, blockMemory}
-use Rattle.stored.proofs.RoundTrip.{Sized, decode-encode, encoded-well}
-use Rattle.stored.proofs.Keeps.{stays-sized}
+use Rattle.block.specs.Block.{encode, decode}
+use Rattle.block.specs.OnBlock.{blockAnswer, blockAfter, blockMemory}
+use Rattle.block.proofs.RoundTrip.{Sized, decode-encode, encoded-well}
+use Rattle.stored.proofs.StaysSized.{stays-sized}
 
 -- x by a test, and where it fails y, which is then x
 either : {A : Type 0} (test : Bool) (x y : A) → (test ≡ false → x ≡ y) → cond test x y ≡ x

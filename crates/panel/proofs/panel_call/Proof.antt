@@ -1,5 +1,5 @@
 -- `panel::panel_call` meets its contract: the call on the block, and its answer packed. Assumes nothing.
-use Rattle.stored.specs.Doors.{callNumber}
+use Rattle.block.specs.OnBlock.{callNumber}
 use Rattle.chip.specs.Answers.{packed, packedOf}
 use Rattle.panel.proofs.Packings.{number-lt, refused-packed}
 use Prim.Native.Nat.{ℕ}

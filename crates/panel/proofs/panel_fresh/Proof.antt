@@ -6,10 +6,11 @@ use native.Mathlib.Omega.{arith}
 use denote.Ref.{now}
 use borrow.Author.Tests.{eq-eqb, ne-eqb, leb-true}
 use borrow.Author.Needs.{needs}
-use Rattle.layout.specs.Numbers.{first, pagesFit}
-use Rattle.layout.proofs.Numbers.{and-right, test-holds, test-fails}
-use Rattle.stored.specs.Block.{encode}
-use Rattle.stored.specs.Doors.{freshBlockNumber, freshBlock}
+use Rattle.numbers.specs.Numbers.{first}
+use Rattle.layout.specs.Memory.{pagesFit}
+use Rattle.numbers.proofs.Tests.{and-right, test-holds, test-fails}
+use Rattle.block.specs.Block.{encode}
+use Rattle.block.specs.OnBlock.{freshBlockNumber, freshBlock}
 use Rattle.panel.specs.Packs.{numbered, freshGiven}
 use Rattle.panel.proofs.panel_fresh.Statement.{statement}
 use Rattle.panel.proofs.panel_fresh.Tie as tie

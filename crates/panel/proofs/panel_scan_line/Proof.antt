@@ -4,13 +4,13 @@ use Prim.Native.Nat.{ℕ, zero, suc}
 use native.Mathlib.Omega.{arith}
 use denote.Ref.{now}
 use borrow.Author.Needs.{needs}
-use Rattle.layout.specs.Numbers.{whenDone}
+use Rattle.numbers.specs.Numbers.{whenDone}
 use Rattle.layout.specs.Memory.{size, lineStart}
-use Rattle.layout.proofs.Numbers.{test-holds, test-fails}
+use Rattle.numbers.proofs.Tests.{test-holds, test-fails}
 use Rattle.layout.proofs.Lines as lines
 use Rattle.chip.specs.Answers.{packed}
-use Rattle.stored.specs.Doors.{blockLineNumber}
-use Rattle.steps.proofs.Changes.{well-long}
+use Rattle.block.specs.OnBlock.{blockLineNumber}
+use Rattle.own.proofs.Changes.{well-long}
 use Rattle.panel.specs.Packs.{lineOffset}
 use Rattle.panel.proofs.Packings.{line-told, line-lt}
 use Rattle.panel.proofs.panel_scan_line.Statement.{statement}

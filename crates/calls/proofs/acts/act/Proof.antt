@@ -8,10 +8,10 @@ use denote.Ref.{now}
 use borrow.Author.Tests.{ne-eqb}
 use borrow.Author.Needs.{needs}
 use Rattle.layout.specs.Memory.{size}
-use Rattle.layout.proofs.Numbers.{test-holds, test-fails}
-use Rattle.stored.specs.Block.{wellFormedBlock, decodeControl}
-use Rattle.steps.proofs.Changes.{well-long}
-use Rattle.calls.proofs.Wholes.{ill-formed, wrong-length}
+use Rattle.numbers.proofs.Tests.{test-holds, test-fails}
+use Rattle.block.specs.Block.{wellFormedBlock, decodeControl}
+use Rattle.own.proofs.Changes.{well-long}
+use Rattle.calls.proofs.ByLine.{ill-formed, wrong-length}
 use Rattle.calls.proofs.acts.act.Statement.{statement}
 use Rattle.calls.proofs.acts.act.Tie as tie
 

@@ -6,8 +6,8 @@ use native.Mathlib.Omega.{arith}
 use denote.Ref.{now}
 use borrow.Author.Needs.{needs}
 use Rattle.chip.specs.Steps.{memory-after}
-use Rattle.steps.proofs.Rows.{row-stateful}
-use Rattle.calls.proofs.Wholes.{Ready, beside-memory}
+use Rattle.own.proofs.Lines.{row-stateful}
+use Rattle.calls.proofs.ByLine.{Ready, beside-memory}
 use Rattle.calls.proofs.acts.operate.Statement.{statement}
 use Rattle.calls.proofs.acts.operate.Tie as tie
 

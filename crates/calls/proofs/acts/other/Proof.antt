@@ -8,8 +8,8 @@ use denote.Ref.{now}
 use borrow.Author.Needs.{needs}
 use borrow.Author.Tests.{le-leb, lt-leb}
 use Rattle.chip.specs.Steps.{memory-after}
-use Rattle.steps.proofs.Rows.{row-access, row-precharge, row-read-block, row-data-read, row-stateless, row-write-tag, row-write-register, row-read-register}
-use Rattle.calls.proofs.Wholes.{Ready, unknown, by-its-line, beside-memory}
+use Rattle.own.proofs.Lines.{row-access, row-precharge, row-read-block, row-data-read, row-stateless, row-write-tag, row-write-register, row-read-register}
+use Rattle.calls.proofs.ByLine.{Ready, unknown, by-its-line, beside-memory}
 use Rattle.calls.proofs.acts.other.Statement.{statement}
 use Rattle.calls.proofs.acts.other.Tie as tie
 

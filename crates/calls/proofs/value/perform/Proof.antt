@@ -4,8 +4,8 @@ use mathlib.Core.Path.{ap, _∙_}
 use Prim.Native.Nat.{ℕ, _^_, _<_}
 use denote.Ref.{now}
 use borrow.Author.Needs.{needs}
-use Rattle.stored.specs.Doors.{blockAnswer, blockAfter, blockMemory}
-use Rattle.stored.specs.Block.{decode}
+use Rattle.block.specs.OnBlock.{blockAnswer, blockAfter, blockMemory}
+use Rattle.block.specs.Block.{decode}
 use Rattle.stored.proofs.ByValue.{answer-by-value, chip-by-value, memory-by-value}
 use Rattle.stored.proofs.Sizes.{sized}
 use Rattle.calls.proofs.value.perform.Statement.{statement}

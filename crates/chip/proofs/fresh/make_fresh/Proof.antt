@@ -5,8 +5,9 @@ use native.Mathlib.Omega.{arith}
 use lib.Dec.{leb}
 use borrow.Author.Needs.{needs}
 use borrow.Author.Tests.{leb-true}
-use Rattle.layout.specs.Numbers.{first, pagesFit}
-use Rattle.layout.proofs.Numbers.{and-right, test-holds, test-fails}
+use Rattle.numbers.specs.Numbers.{first}
+use Rattle.layout.specs.Memory.{pagesFit}
+use Rattle.numbers.proofs.Tests.{and-right, test-holds, test-fails}
 use Rattle.chip.specs.State.{freshNumber}
 use Rattle.chip.specs.Answers.{refusalOf}
 use Rattle.chip.specs.Calls.{freshAnswered}

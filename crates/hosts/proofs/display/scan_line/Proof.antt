@@ -5,9 +5,9 @@ use Prim.Native.Nat.{ℕ}
 use lib.ListN.{length}
 use denote.Ref.{now}
 use borrow.Author.Needs.{needs}
-use Rattle.layout.specs.Numbers.{first, whenDone}
+use Rattle.numbers.specs.Numbers.{first, whenDone}
 use Rattle.layout.specs.Memory.{scanLine, lineGiven}
-use Rattle.layout.proofs.Numbers.{test-holds, test-fails}
+use Rattle.numbers.proofs.Tests.{test-holds, test-fails}
 use Rattle.chip.specs.Refusals.{scanLineNumber}
 use Rattle.chip.specs.Calls.{scanLineOf}
 use Rattle.chip.proofs.Forms.{line-told}

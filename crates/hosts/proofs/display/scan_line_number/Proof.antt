@@ -1,8 +1,8 @@
 -- `hosts::display::scan_line_number` meets its contract: of a well formed state the numbers are layout's. Assumes nothing.
 use mathlib.Core.Path.{_∙_}
 use borrow.Author.Needs.{needs}
-use Rattle.layout.specs.Numbers.{first}
-use Rattle.layout.proofs.Numbers.{test-holds, test-fails}
+use Rattle.numbers.specs.Numbers.{first}
+use Rattle.numbers.proofs.Tests.{test-holds, test-fails}
 use Rattle.chip.specs.Refusals.{scanLineNumber}
 use Rattle.chip.proofs.Forms.{line-told}
 use Rattle.hosts.proofs.display.scan_line_number.Statement.{statement}

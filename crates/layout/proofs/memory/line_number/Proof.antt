@@ -4,9 +4,9 @@ use mathlib.Core.Bool.{Bool, true, false, _&&_}
 use lib.Dec.{eqb, ltb}
 use borrow.Author.Needs.{needs}
 use borrow.Author.Tests.{eq-eqb, ne-eqb}
-use Rattle.layout.specs.Numbers.{first}
+use Rattle.numbers.specs.Numbers.{first}
 use Rattle.layout.specs.Memory.{size, lineNumber}
-use Rattle.layout.proofs.Numbers.{test-holds, test-fails}
+use Rattle.numbers.proofs.Tests.{test-holds, test-fails}
 use Rattle.layout.proofs.memory.line_number.Statement.{statement}
 use Rattle.layout.proofs.memory.line_number.Tie as tie
 

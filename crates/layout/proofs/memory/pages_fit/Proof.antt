@@ -1,6 +1,6 @@
 -- `memory::pages_fit` meets its contract: its tests are the definition's. Assumes nothing.
 use mathlib.Core.Path.{refl}
-use Rattle.layout.specs.Numbers.{pagesFit}
+use Rattle.layout.specs.Memory.{pagesFit}
 use Rattle.layout.proofs.memory.pages_fit.Statement.{statement}
 use Rattle.layout.proofs.memory.pages_fit.Tie as tie
 

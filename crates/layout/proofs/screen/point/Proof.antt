@@ -1,7 +1,7 @@
 -- `screen::point` meets its contract: each return has the case that the tests before it leave. Assumes nothing.
 use borrow.Author.Needs.{needs}
 use Rattle.layout.specs.Screen.{pointedOf}
-use Rattle.layout.proofs.Numbers.{test-holds, test-fails}
+use Rattle.numbers.proofs.Tests.{test-holds, test-fails}
 use Rattle.layout.proofs.screen.point.Statement.{statement}
 use Rattle.layout.proofs.screen.point.Tie as tie
 

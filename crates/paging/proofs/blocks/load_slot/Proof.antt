@@ -9,8 +9,8 @@ use borrow.Rule.Slice.PartMut.{putMid}
 use borrow.Author.Needs.{needs}
 use Rattle.layout.specs.Memory.{address}
 use Rattle.bank.specs.Work.{inSlot, loaded}
-use Rattle.bank.specs.Update.{update}
-use Rattle.bank.proofs.Updates.{update-lent}
+use Rattle.lists.specs.Update.{update}
+use Rattle.lists.proofs.Updates.{update-lent}
 use Rattle.paging.proofs.blocks.load_slot.Statement.{statement}
 use Rattle.paging.proofs.blocks.load_slot.Tie as tie
 

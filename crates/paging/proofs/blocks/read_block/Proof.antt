@@ -7,8 +7,8 @@ use lib.Dec.{lit<}
 use denote.Ref.{now}
 use borrow.Author.Needs.{needs}
 use Rattle.layout.specs.Memory.{address}
-use Rattle.layout.proofs.Numbers.{and-left, test-holds, test-fails}
-use Rattle.bank.specs.Words.{putWord}
+use Rattle.numbers.proofs.Tests.{and-left, test-holds, test-fails, equal, unequal}
+use Rattle.lists.specs.Words.{putWord}
 use Rattle.bank.specs.Work.{inSlot, loaded}
 use Rattle.chip.specs.State.{openPage, slots, closed, isClosed}
 use Rattle.chip.specs.Operations.{readBlock, inRange}
@@ -16,12 +16,11 @@ use Rattle.chip.specs.Steps.{control-after, pixels-after}
 use Rattle.chip.specs.Refusals.{badBits, onOpen, onClosed}
 use Rattle.chip.specs.Answers.{refusalOf, answer}
 use Rattle.chip.proofs.Accepted.{block-range}
-use Rattle.stored.specs.Block.{tagAt, decodeControl}
-use Rattle.stored.proofs.Held.{held-tag, held-pixels, held-of}
-use Rattle.stored.proofs.Forms.{equal, unequal}
-use Rattle.steps.proofs.Owns.{on-closed, outside, none-applies, refused, done-answer, done-block}
-use Rattle.steps.proofs.Changes.{pages-in, page-below, further, counts}
-use Rattle.steps.proofs.Rows.{row-read-block}
+use Rattle.block.specs.Block.{tagAt, decodeControl}
+use Rattle.block.proofs.Held.{held-tag, held-pixels, held-of}
+use Rattle.own.proofs.Owns.{on-closed, outside, none-applies, refused, done-answer, done-block}
+use Rattle.own.proofs.Changes.{pages-in, page-below, further, counts}
+use Rattle.own.proofs.Lines.{row-read-block}
 use Rattle.paging.proofs.blocks.read_block.Statement.{statement}
 use Rattle.paging.proofs.blocks.read_block.Tie as tie
 

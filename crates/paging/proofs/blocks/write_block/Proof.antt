@@ -6,7 +6,7 @@ use native.Mathlib.Omega.{arith}
 use lib.Dec.{eqb}
 use denote.Ref.{now}
 use borrow.Author.Needs.{needs}
-use Rattle.layout.proofs.Numbers.{and-left, test-holds, test-fails}
+use Rattle.numbers.proofs.Tests.{and-left, test-holds, test-fails, equal, unequal}
 use Rattle.bank.specs.Work.{tagged}
 use Rattle.chip.specs.declared.Answer.the-variants.{Done}
 use Rattle.chip.specs.Steps.{memory-after, control-after, pixels-after}
@@ -15,12 +15,11 @@ use Rattle.chip.specs.State.{slots, closed, isClosed}
 use Rattle.chip.specs.Refusals.{badBits, onOpen, onClosed}
 use Rattle.chip.specs.Answers.{refusalOf, answer}
 use Rattle.chip.proofs.Accepted.{block-range}
-use Rattle.stored.specs.Block.{decodeControl}
-use Rattle.stored.proofs.Held.{held-of}
-use Rattle.stored.proofs.Forms.{equal, unequal}
-use Rattle.steps.proofs.Owns.{done-memory, on-closed, outside, none-applies, refused, done-answer, done-block}
-use Rattle.steps.proofs.Changes.{pages-in, page-below, counts}
-use Rattle.steps.proofs.Rows.{row-write-block}
+use Rattle.block.specs.Block.{decodeControl}
+use Rattle.block.proofs.Held.{held-of}
+use Rattle.own.proofs.Owns.{done-memory, on-closed, outside, none-applies, refused, done-answer, done-block}
+use Rattle.own.proofs.Changes.{pages-in, page-below, counts}
+use Rattle.own.proofs.Lines.{row-write-block}
 use Rattle.paging.proofs.blocks.write_block.Statement.{statement}
 use Rattle.paging.proofs.blocks.write_block.Tie as tie
 

@@ -4,19 +4,18 @@ use Prim.Native.Nat.{_<_, _^_}
 use native.Mathlib.Omega.{arith}
 use denote.Ref.{now}
 use borrow.Author.Needs.{needs}
-use Rattle.layout.proofs.Numbers.{and-left, test-holds, test-fails}
+use Rattle.numbers.proofs.Tests.{and-left, test-holds, test-fails, equal, unequal}
 use Rattle.chip.specs.Refusals.{badBits, onOpen, onClosed}
 use Rattle.chip.specs.Answers.{refusalOf, answer}
 use Rattle.chip.specs.Steps.{control-after, pixels-after}
 use Rattle.chip.specs.Operations.{access, inRange}
 use Rattle.chip.specs.State.{closed, isClosed}
 use Rattle.chip.proofs.Accepted.{page-range}
-use Rattle.stored.specs.Block.{decodeControl}
-use Rattle.stored.proofs.Forms.{equal, unequal}
-use Rattle.stored.proofs.Held.{held-of, held-page}
-use Rattle.steps.proofs.Changes.{further, counts, pages-in}
-use Rattle.steps.proofs.Owns.{outside, on-open, none-applies, refused, done-answer, done-block}
-use Rattle.steps.proofs.Rows.{row-access}
+use Rattle.block.specs.Block.{decodeControl}
+use Rattle.block.proofs.Held.{held-of, held-page}
+use Rattle.own.proofs.Changes.{further, counts, pages-in}
+use Rattle.own.proofs.Owns.{outside, on-open, none-applies, refused, done-answer, done-block}
+use Rattle.own.proofs.Lines.{row-access}
 use Rattle.paging.proofs.pages.access.Statement.{statement}
 use Rattle.paging.proofs.pages.access.Tie as tie
 

@@ -5,7 +5,7 @@ use native.Mathlib.Omega.{arith}
 use denote.Ref.{now}
 use borrow.Author.Needs.{needs}
 use Rattle.layout.specs.Memory.{place}
-use Rattle.layout.proofs.Numbers.{and-left, test-holds, test-fails}
+use Rattle.numbers.proofs.Tests.{and-left, test-holds, test-fails, equal, unequal}
 use Rattle.bank.specs.Work.{copied}
 use Rattle.chip.specs.Refusals.{badBits, onOpen, onClosed}
 use Rattle.chip.specs.Answers.{refusalOf, answer}
@@ -13,12 +13,11 @@ use Rattle.chip.specs.Steps.{control-after, pixels-after, memory-after}
 use Rattle.chip.specs.Operations.{duplicate, inRange}
 use Rattle.chip.specs.State.{closed, isClosed}
 use Rattle.chip.proofs.Accepted.{page-range}
-use Rattle.stored.specs.Block.{decodeControl}
-use Rattle.stored.proofs.Forms.{equal, unequal}
-use Rattle.stored.proofs.Held.{held-of, held-page}
-use Rattle.steps.proofs.Changes.{further, counts, pages-in, page-below}
-use Rattle.steps.proofs.Owns.{outside, on-closed, none-applies, refused, done-answer, done-block, done-memory}
-use Rattle.steps.proofs.Rows.{row-duplicate}
+use Rattle.block.specs.Block.{decodeControl}
+use Rattle.block.proofs.Held.{held-of, held-page}
+use Rattle.own.proofs.Changes.{further, counts, pages-in, page-below}
+use Rattle.own.proofs.Owns.{outside, on-closed, none-applies, refused, done-answer, done-block, done-memory}
+use Rattle.own.proofs.Lines.{row-duplicate}
 use Rattle.paging.proofs.pages.duplicate.Statement.{statement}
 use Rattle.paging.proofs.pages.duplicate.Tie as tie
 

@@ -6,17 +6,17 @@ use lib.Dec.{lit<}
 use denote.Ref.{now}
 use borrow.Author.Tests.{ltb-true}
 use borrow.Author.Needs.{needs}
-use Rattle.layout.proofs.Numbers.{and-left, test-holds, test-fails}
+use Rattle.numbers.proofs.Tests.{and-left, test-holds, test-fails}
 use Rattle.chip.specs.Refusals.{badBits, onOpen, onClosed}
 use Rattle.chip.specs.Answers.{refusalOf, answer}
 use Rattle.chip.specs.Steps.{control-after, pixels-after}
 use Rattle.chip.specs.Operations.{precharge, inRange}
 use Rattle.chip.specs.State.{closed}
-use Rattle.stored.specs.Block.{decodeControl}
-use Rattle.stored.proofs.Held.{held-of, held-page}
-use Rattle.steps.proofs.Changes.{further, counts}
-use Rattle.steps.proofs.Owns.{outside, none-applies, refused, done-answer, done-block}
-use Rattle.steps.proofs.Rows.{row-precharge}
+use Rattle.block.specs.Block.{decodeControl}
+use Rattle.block.proofs.Held.{held-of, held-page}
+use Rattle.own.proofs.Changes.{further, counts}
+use Rattle.own.proofs.Owns.{outside, none-applies, refused, done-answer, done-block}
+use Rattle.own.proofs.Lines.{row-precharge}
 use Rattle.paging.proofs.pages.precharge.Statement.{statement}
 use Rattle.paging.proofs.pages.precharge.Tie as tie
 

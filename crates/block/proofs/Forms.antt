@@ -1,0 +1,60 @@
+-- What the tests of a well formed block come to, as code makes them. Assumes nothing.
+use mathlib.Core.Path.{_≡_, refl, sym, ap, ap₂, _∙_}
+use mathlib.Core.Bool.{Bool, true, false, _&&_}
+use mathlib.Core.List.{List}
+use Prim.Native.Nat.{ℕ, _+_, _*_, _^_, _<_}
+use native.Mathlib.Decide.{ℕ-discrete}
+use native.Mathlib.Omega.{arith}
+use lib.Dec.{eqb}
+use lib.ListN.{getD}
+use borrow.Author.Tests.{eq-eqb, ne-eqb}
+use Rattle.bits.specs.Bits.{joined}
+use Rattle.lists.specs.Words.{halfAt, wordAt, halvesAt}
+use Rattle.lists.proofs.Words.{half-at-lt}
+use Rattle.block.specs.Block.{header, same}
+
+-- ---- the header
+
+two-halves : (s : List ℕ) (p : ℕ) → wordAt s p ≡ halfAt s p + halfAt s (p + 2) * 2 ^ 16
+unfolding wordAt halfAt joined
+two-halves s p =
+    let e : p + 2 + 1 ≡ p + 3 = omega arith in
+    rw e (omega arith)
+
+-- two half words are two numbers exactly if their word is those two
+pair-test : (s : List ℕ) (p x y : ℕ) → ((a : ℕ) → getD s a 0 < 2 ^ 8) → x < 2 ^ 16
+    → (eqb (halfAt s p) x && eqb (halfAt s (p + 2)) y) ≡ eqb (wordAt s p) (x + y * 2 ^ 16)
+pair-test s p x y bytes hx = go (ℕ-discrete (halfAt s p) x) (ℕ-discrete (halfAt s (p + 2)) y)
+  where
+    halves : wordAt s p ≡ halfAt s p + halfAt s (p + 2) * 2 ^ 16
+    halves = two-halves s p
+
+    low : halfAt s p < 2 ^ 16
+    low = half-at-lt s p bytes
+
+    go : Dec (halfAt s p ≡ x) → Dec (halfAt s (p + 2) ≡ y) → (eqb (halfAt s p) x && eqb (halfAt s (p + 2)) y) ≡ eqb (wordAt s p) (x + y * 2 ^ 16)
+    go (yes e) (yes f) = rw (eq-eqb (halfAt s p) x e, eq-eqb (halfAt s (p + 2)) y f) (sym (eq-eqb (wordAt s p) (x + y * 2 ^ 16) (omega (arith, halves, e, f))))
+    go (yes e) (no g) = rw (eq-eqb (halfAt s p) x e, ne-eqb (halfAt s (p + 2)) y g)
+        (sym (ne-eqb (wordAt s p) (x + y * 2 ^ 16) (λ q. g (omega (arith, halves, e, q)))))
+    go (no f) r = rw (ne-eqb (halfAt s p) x f) (sym (ne-eqb (wordAt s p) (x + y * 2 ^ 16) (λ q. f (omega (arith, halves, q, low, hx)))))
+
+regroup : (a b c d e f g : Bool) → (a && (b && (c && (d && (e && (f && (g && true))))))) ≡ (a && ((b && c) && ((d && e) && (f && g))))
+regroup false b c d e f g = refl
+regroup true false c d e f g = refl
+regroup true true false d e f g = refl
+regroup true true true false e f g = refl
+regroup true true true true false f g = refl
+regroup true true true true true false g = refl
+regroup true true true true true true true = refl
+regroup true true true true true true false = refl
+
+-- the header's test, as code makes it
+pub header-test : (s : List ℕ) → ((a : ℕ) → getD s a 0 < 2 ^ 8) → same (halvesAt 8 s 0) (header (halfAt s 0))
+    ≡ (eqb (halfAt s 2) 8 && (eqb (wordAt s 4) 0x0018_0010 && (eqb (wordAt s 8) 0x003c_0034 && eqb (wordAt s 12) 0x015c_005c)))
+unfolding same halvesAt header
+header-test s bytes =
+    rw (eq-eqb (halfAt s 0) (halfAt s 0) refl)
+    (regroup (eqb (halfAt s 2) 8) (eqb (halfAt s 4) 16) (eqb (halfAt s 6) 24) (eqb (halfAt s 8) 52) (eqb (halfAt s 10) 60) (eqb (halfAt s 12) 92) (eqb (halfAt s 14) 348)
+    ∙ ap (λ (t : Bool). eqb (halfAt s 2) 8 && t)
+    (ap₂ _&&_ (pair-test s 4 16 24 bytes (omega arith))
+    (ap₂ _&&_ (pair-test s 8 52 60 bytes (omega arith)) (pair-test s 12 92 348 bytes (omega arith)))))

@@ -1,0 +1,138 @@
+-- A data write's outcome, put into the block, is what the definitions say of the write. Assumes nothing.
+use mathlib.Core.Path.{_≡_, refl, sym, ap, _∙_, subst}
+use mathlib.Core.Bool.{Bool, true, false, cond, not, _&&_, _||_, or-true, or-false}
+use mathlib.Core.List.{List}
+use Prim.Native.Nat.{ℕ, _+_, _*_, _%_, _^_, _<_}
+use native.Mathlib.Nat.{mod-lt}
+use native.Mathlib.Omega.{arith}
+use lib.Bits.{bitOr, or-lt}
+use lib.Pow.{pow-pos}
+use lib.Seq.{getD-drop}
+use lib.Dec.{lit<}
+use lib.ListN.{getD, drop}
+use Rattle.bits.specs.Bits.{bit, wordIn}
+use Rattle.pixel.specs.declared.Write.{Write}
+use Rattle.pixel.specs.declared.Outcome.{Outcome}
+use Rattle.pixel.specs.Registers.{register, freshRegisters}
+use Rattle.pixel.specs.Writes.{used, intoSlot, intoWord, hits, newByte, outcomeOf}
+use Rattle.pixel.proofs.Outcomes.{byte-outcome, taken-lt, into-slot-lt, into-word-lt}
+use Rattle.numbers.proofs.Tests.{and-left}
+use Rattle.lists.specs.Words.{putWord}
+use Rattle.bank.specs.Work.{inSlot}
+use Rattle.lists.proofs.Words.{word-at-once}
+use Rattle.chip.specs.declared.Control.{Control}
+use Rattle.chip.specs.declared.Call.{Call}
+use Rattle.chip.specs.State.{slots}
+use Rattle.chip.specs.Operations.{dataWrite}
+use Rattle.chip.specs.Painting.{painted, marked, tagWith}
+use Rattle.chip.specs.Steps.{tagOf, slotByte, oldWord, withTag, withHit, counted, control-after, pixels-after}
+use Rattle.chip.proofs.Tags.{mark-law}
+use Rattle.chip.proofs.Words.{slot-word}
+use Rattle.block.specs.Block.{flagsAt, encode, decodeControl, wellFormedBlock}
+use Rattle.block.proofs.Held.{Held, held-of, held-tag, held-flags, held-word}
+use Rattle.lists.proofs.Alike.{words-lt}
+use Rattle.own.specs.Own.{hitMarked, settled}
+use Rattle.own.proofs.Lines.{asked}
+use Rattle.own.proofs.Changes.{counts}
+
+-- ---- the destination's word
+
+beside : (slot a n : ℕ) → inSlot slot (a + n) ≡ inSlot slot a + n
+unfolding inSlot
+beside slot a n = omega arith
+
+-- the outcome's word, put at once, is the definition's four bytes
+pub painted-word : (registers : List ℕ) (w : Write) (old slot : ℕ) (pixels : List ℕ) → ((a : ℕ) → getD pixels a 0 < 2 ^ 8)
+    → putWord (inSlot slot (4 * intoWord registers w)) (outcomeOf registers w old (wordIn (slotByte pixels slot) (intoWord registers w)) .word) pixels
+    ≡ painted registers w old (inSlot slot) pixels
+unfolding painted
+painted-word registers w old slot pixels bytes =
+    let at = 4 * intoWord registers w in
+    let dest = wordIn (slotByte pixels slot) (intoWord registers w) in
+    word-at-once (inSlot slot at) (outcomeOf registers w old dest .word) (λ n. inSlot slot (at + n)) (newByte registers w old) pixels (λ n h. beside slot at n)
+    (λ n h. byte-outcome registers w old dest n h
+    ∙ ap (newByte registers w old n) (slot-word pixels slot (intoWord registers w) n bytes h ∙ ap (λ (a : ℕ). getD pixels a 0) (beside slot at n)))
+
+-- ---- hit
+
+-- where the two flags are put, picking was on and hit is set; else both stay
+flags-put : {s : List ℕ} {c : Control} {pixels : List ℕ} → Held s c pixels → (b : Bool) → (b ≡ true → c .picking ≡ true)
+    → Held (cond b (putWord flagsAt 3 s) s) (withHit c (c .hit || b)) pixels
+flags-put {s} {c} {pixels} h true on =
+    subst (λ (k : Control). Held (putWord flagsAt 3 s) k pixels) (λ i. record {
+      pages = c .pages;
+      banks = c .banks;
+      registers = c .registers;
+      picking = sym (on refl) i;
+      hit = sym (or-true (c .hit)) i;
+      counter = c .counter;
+      tags = c .tags;
+    }) (held-flags h true true)
+flags-put {s} {c} {pixels} h false on = subst (λ (b : Bool). Held s (withHit c b) pixels) (sym (or-false (c .hit))) h
+
+pub held-hit : {s : List ℕ} {c : Control} {pixels : List ℕ} (sets : Bool) → Held s c pixels
+    → Held (hitMarked sets s) (withHit c (c .hit || (c .picking && sets))) pixels
+unfolding hitMarked
+held-hit {s} {c} {pixels} sets h =
+    subst (λ (p : Bool). Held (cond (p && sets) (putWord flagsAt 3 s) s) (withHit c (c .hit || (c .picking && sets))) pixels)
+    (sym (ap (λ (k : Control). k .picking) (h .control))) (flags-put h (c .picking && sets) (and-left (c .picking) sets))
+
+-- ---- all of it
+
+tag-lt : (s : List ℕ) → ((a : ℕ) → getD s a 0 < 2 ^ 8) → (slot : ℕ) → tagOf (decodeControl s) slot < 2 ^ 32
+unfolding tagOf decodeControl
+tag-lt s bytes slot = words-lt 8 60 s bytes slot
+
+module _ {s : List ℕ} {c : Control} {pixels : List ℕ} (h : Held s c pixels) (w : Write) (slot at : ℕ) (o : Outcome) where
+  pub settled-is : slot < 8 → at < 8 → o .taken < 16 → tagOf c slot < 2 ^ 32 → settled w slot at o s ≡ encode (record {
+    control = counted (withHit (withTag c slot (marked (cond (w .initial) 0 (tagOf c slot)) at (o .taken))) (c .hit || (c .picking && (not (w .stateless) && o .written))));
+    pixels = putWord (inSlot slot (4 * at)) (o .word) pixels;
+  })
+  unfolding settled
+  settled-is hs ha ht hg =
+      let tag = bitOr (cond (w .initial) 0 (tagOf c slot)) (o .taken * 2 ^ (4 * at) % 2 ^ 32) in
+      let same : tagOf (decodeControl s) slot ≡ tagOf c slot = ap (λ (k : Control). tagOf k slot) (h .control) in
+      let marks : tag ≡ marked (cond (w .initial) 0 (tagOf c slot)) at (o .taken) = mark-law (cond (w .initial) 0 (tagOf c slot)) at (o .taken) (kept (w .initial) hg) ht in
+      let fits : tag < 2 ^ 32 = or-lt 32 (cond (w .initial) 0 (tagOf c slot)) (o .taken * 2 ^ (4 * at) % 2 ^ 32) (kept (w .initial) hg) (mod-lt (o .taken * 2 ^ (4 * at)) (pow-pos 32)) in
+      rw (same) (counts (held-hit (not (w .stateless) && o .written) (held-tag (held-word h (inSlot slot (4 * at)) (o .word)) slot tag hs fits)) ∙ rw marks)
+    where
+      kept : (initial : Bool) → tagOf c slot < 2 ^ 32 → cond initial 0 (tagOf c slot) < 2 ^ 32
+      kept true l = lit< tt
+      kept false l = l
+
+-- a data write of either kind: what it leaves of a well formed block
+module _ (s : List ℕ) (bytes : (a : ℕ) → getD s a 0 < 2 ^ 8) (well : wellFormedBlock s ≡ true) (w : Write) where
+  abbrev registers : List ℕ
+  registers = decodeControl s .registers
+
+  abbrev old : ℕ
+  old = wordIn (slotByte (drop 92 s) (w .slot)) (w .word)
+
+  abbrev slot : ℕ
+  slot = intoSlot 8 registers w
+
+  abbrev at : ℕ
+  at = intoWord registers w
+
+  pub write-leaves : w .slot < 8 → w .word < 8 → w .enables < 16 → (memory : List ℕ)
+      → settled w slot at (outcomeOf registers w old (wordIn (slotByte (drop 92 s) slot) at)) s ≡ encode (record {
+        control = counted (control-after slots (decodeControl s) (dataWrite w) (oldWord (slotByte (drop 92 s)) (dataWrite w)));
+        pixels = pixels-after slots (decodeControl s) (drop 92 s) memory (dataWrite w) (oldWord (slotByte (drop 92 s)) (dataWrite w));
+      })
+  unfolding control-after pixels-after oldWord outcomeOf hits tagWith slots
+  write-leaves hs hw he memory =
+      let o = outcomeOf registers w old (wordIn (slotByte (drop 92 s) slot) at) in
+      settled-is (held-of s bytes well) w slot at o (into-slot-lt 8 registers w hs) (into-word-lt registers w hw) (taken-lt registers w old he) (tag-lt s bytes slot)
+      ∙ ap (λ (l : List ℕ). encode (record {
+        control = counted (control-after slots (decodeControl s) (dataWrite w) old);
+        pixels = l;
+      })) (painted-word registers w old slot (drop 92 s) (λ a. rw (getD-drop 92 s a 0) (bytes (92 + a))))
+
+-- a stateless write goes where its operands say
+pub stateless-slot : (registers : List ℕ) (initial : Bool) (x : Call) → intoSlot 8 registers (asked true initial x) ≡ x .a
+unfolding intoSlot used register freshRegisters bit
+stateless-slot registers initial x = refl
+
+pub stateless-word : (registers : List ℕ) (initial : Bool) (x : Call) → intoWord registers (asked true initial x) ≡ x .b
+unfolding intoWord used register freshRegisters bit
+stateless-word registers initial x = refl

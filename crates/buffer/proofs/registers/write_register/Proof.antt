@@ -1,0 +1,110 @@
+-- `buffer::registers::write_register` meets its contract. Assumes nothing.
+use mathlib.Core.List.{[], _∷_}
+use mathlib.Core.Path.{_≡_, refl, sym, ap, _∙_}
+use Prim.Native.Nat.{_≤_, _%_, _^_, ℕ, _<_}
+use native.Mathlib.Omega.{arith}
+use lib.ListN.{drop}
+use lib.Dec.{lit≤}
+use denote.Ref.{now}
+use borrow.Author.Tests.{ne-eqb}
+use borrow.Author.Needs.{needs}
+use Rattle.bits.specs.Bits.{within}
+use Rattle.numbers.proofs.Tests.{and-left, test-holds, test-fails}
+use Rattle.chip.specs.declared.Control.{Control}
+use Rattle.chip.specs.Steps.{withRegister, counted, control-after, pixels-after}
+use Rattle.chip.specs.Operations.{writeRegister, inRange}
+use Rattle.chip.specs.Refusals.{badBits, onOpen, onClosed}
+use Rattle.chip.specs.Answers.{refusalOf, answer}
+use Rattle.block.specs.Block.{encode, decodeControl}
+use Rattle.block.proofs.Held.{Held, held-of, held-register, held-flags}
+use Rattle.own.proofs.Owns.{tests, outside, not-allowed, none-applies, refused, done-answer, done-block}
+use Rattle.own.proofs.Lines.{row-write-register}
+use Rattle.own.proofs.Changes.{further, counts}
+use Rattle.buffer.proofs.Settings.{register-range, plain-register, compare-register}
+use Rattle.buffer.proofs.registers.write_register.Statement.{statement}
+use Rattle.buffer.proofs.registers.write_register.Tie as tie
+
+-- the function's entry, from past the test of the operands
+abbrev entry : tie.Else1 → tie.Start
+entry c = c .before .before .before
+
+-- past that test there is such a register
+range : (c : tie.Else1) → (1 ≤ entry c .args .x .a) × (entry c .args .x .a ≤ 7)
+range c = register-range _ (and-left _ _ (test-holds (c .before .register-fits .ensures) (c .if1 .left)))
+
+-- past the test of the bits too no number applies
+none : (c : tie.Else2) → (let x = entry (c .before .before .before) .args .x in tests (decodeControl (now (entry (c .before .before .before) .args .s))) (writeRegister (x .a) (x .given)) (x .b ∷ x .c ∷ x .d ∷ []) ≡ 0)
+unfolding inRange badBits onOpen onClosed
+none c =
+    let past = c .before .before .before in
+    let x = entry past .args .x in
+    let fits = test-holds (past .before .register-fits .ensures) (past .if1 .left) in
+    let allowed = test-holds (c .before .within .ensures ∙ ap (within (x .given)) (c .before .before .writable-bits .ensures)) (c .if2 .left) in
+    none-applies (decodeControl (now (entry past .args .s))) (writeRegister (x .a) (x .given)) _ fits (rw allowed) refl refl
+
+held : (c : tie.Else1) → Held (now (entry c .args .s)) (decodeControl (now (entry c .args .s))) (drop 92 (now (entry c .args .s)))
+held c = held-of (now (entry c .args .s)) (λ a. omega (arith, c .before .before .slice-known .given a)) (entry c .pre .1)
+
+given-small : (c : tie.Start) → c .args .x .given < 2 ^ 32
+given-small c = search needs
+
+returns : tie.Need-returns
+unfolding inRange refusalOf
+returns c =
+    let start = c .before .before .before in
+    let s = now (start .args .s) in
+    let x = start .args .x in
+    let res = refused s x (writeRegister (x .a) (x .given)) _ (row-write-register x (start .pre .2)) (outside (decodeControl s) (writeRegister (x .a) (x .given)) _ (test-fails (c .before .register-fits .ensures) (c .if1 .taken))) in
+    (res .0, res .1)
+
+writable-bits-requires : tie.Need-writable-bits-requires
+writable-bits-requires c κs = range c
+
+returns-2 : tie.Need-returns-2
+unfolding inRange badBits refusalOf
+returns-2 c =
+    let past = c .before .before .before in
+    let s = now (entry past .args .s) in
+    let x = entry past .args .x in
+    let fits = test-holds (past .before .register-fits .ensures) (past .if1 .left) in
+    let bad = test-fails (c .before .within .ensures ∙ ap (within (x .given)) (c .before .before .writable-bits .ensures)) (c .if2 .taken) in
+    let res = refused s x (writeRegister (x .a) (x .given)) _ (row-write-register x (entry past .pre .2)) (not-allowed (decodeControl s) (writeRegister (x .a) (x .given)) _ fits (rw bad)) in
+    (res .0, res .1)
+
+returns-3 : tie.Need-returns-3
+unfolding answer control-after pixels-after
+returns-3 c =
+    let past = c .before .before .before .before .before .before .before .before .before .before .before .before .before in
+    let s = now (entry past .args .s) in
+    let x = entry past .args .x in
+    let r = row-write-register x (entry past .pre .2) in
+    let zero = none (c .before .before .before .before .before .before .before .before .before .before) in
+    let six : x .a ≡ 6 = c .before .before .before .before .before .before .before .before .if3 .taken in
+    let small = given-small (entry past) in
+    let put = held-flags (held-register (held past) 6 (x .given % 2 ^ 24) (lit≤ tt) (lit≤ tt) (omega arith)) _ _ in (
+      c .before .before .done .ensures .0 ∙ done-answer s x (writeRegister (x .a) (x .given)) _ r zero,
+      λ memory. c .before .before .done .ensures .1 ∙ ap further (c .before .before .before .before .before .before .put-compare .ensures) ∙ counts put
+          ∙ ap (λ (c : Control). encode (record { control = counted c; pixels = drop 92 s })) (compare-register (decodeControl s) (x .given) ∙ ap (λ (n : ℕ). withRegister (decodeControl s) n (x .given)) (sym six))
+          ∙ done-block s x (writeRegister (x .a) (x .given)) _ r zero memory,
+    )
+
+put-register-requires : tie.Need-put-register-requires
+put-register-requires c κs = let past = c .before .before .before .before .before .before in (entry past .pre .0, range past .0, range past .1)
+
+returns-4 : tie.Need-returns-4
+unfolding answer control-after pixels-after
+returns-4 c =
+    let past = c .before .before .before .before .before .before .before .before .before .before .before .before .before in
+    let s = now (entry past .args .s) in
+    let x = entry past .args .x in
+    let r = row-write-register x (entry past .pre .2) in
+    let zero = none (c .before .before .before .before .before .before .before .before .before .before) in
+    let put = held-register (held past) (x .a) (x .given) (range past .0) (range past .1) (given-small (entry past)) in (
+      c .before .before .done2 .ensures .0 ∙ done-answer s x (writeRegister (x .a) (x .given)) _ r zero,
+      λ memory. c .before .before .done2 .ensures .1 ∙ ap further (c .before .before .before .before .before .before .put-register .ensures) ∙ counts put
+          ∙ ap (λ (c : Control). encode (record { control = counted c; pixels = drop 92 s })) (plain-register (decodeControl s) (x .a) (x .given) (ne-eqb (x .a) 6 (c .before .before .before .before .before .before .before .before .if3 .left)))
+          ∙ done-block s x (writeRegister (x .a) (x .given)) _ r zero memory,
+    )
+
+pub write-register-spec : {M : Type 1} → statement M
+write-register-spec = tie.close (tie.spec (λ c κs. search needs) returns writable-bits-requires (λ c κs. search needs) returns-2 (λ c κs. search needs) (λ c κs. search needs) (λ c. search needs) returns-3 put-register-requires (λ c κs. search needs) (λ c. search needs) returns-4)

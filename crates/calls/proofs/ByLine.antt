@@ -1,0 +1,97 @@
+-- A call's own line, and the refusals in front of it, are the call on a block as a whole. Assumes nothing.
+use mathlib.Core.Path.{_≡_, refl, sym, ap, _∙_}
+use mathlib.Core.Bool.{true, false, _&&_}
+use mathlib.Core.List.{List}
+use Prim.Native.Nat.{ℕ, zero, suc, _^_, _<_, _≤_}
+use lib.Dec.{eqb, leb}
+use lib.ListN.{length, getD, drop}
+use borrow.Author.Tests.{eq-eqb, le-leb}
+use Rattle.numbers.specs.Numbers.{first, whenDone}
+use Rattle.layout.specs.Memory.{size}
+use Rattle.chip.specs.declared.Call.{Call}
+use Rattle.chip.specs.declared.Answer.{Answer}
+use Rattle.chip.specs.declared.Answer.the-variants.{Refused}
+use Rattle.chip.specs.declared.Refusal.the-variants.{IllFormed, MemoryLength, UnknownOperation}
+use Rattle.chip.specs.State.{slots}
+use Rattle.chip.specs.Operations.{Operation, row, operation}
+use Rattle.chip.specs.Steps.{memory-after}
+use Rattle.chip.specs.Answers.{refusalOf}
+use Rattle.chip.specs.Refusals.{number}
+use Rattle.chip.specs.Calls.{answeredWith, memoryWith, answeredOf, memoryOf}
+use Rattle.block.specs.Block.{decodeControl, decode, wellFormedBlock}
+use Rattle.block.specs.OnBlock.{blockAnswer, blockAfter, blockMemory}
+use Rattle.block.proofs.RoundTrip.{encode-decode}
+use Rattle.own.specs.Own.{ownNumber, ownAnswer, ownBlock, ownMemory}
+use Rattle.own.proofs.Changes.{well-control}
+
+-- what a call on a block comes to
+abbrev pub Comes : List ℕ → List ℕ → Call → Answer → List ℕ → List ℕ → Type 0
+Comes s memory x a s' memory' = (a ≡ blockAnswer s memory x) × (s' ≡ blockAfter s memory x) × (memory' ≡ blockMemory s memory x)
+
+pub ill-formed : (s memory : List ℕ) (x : Call) → wellFormedBlock s ≡ false → Comes s memory x (Refused IllFormed) s memory
+unfolding blockAnswer blockAfter blockMemory
+ill-formed s memory x e = (rw e, rw e, rw e)
+
+-- a block that is well formed, and a memory of its size
+pub record Ready (s memory : List ℕ) : Type 0 where
+  pub bytes : (a : ℕ) → getD s a 0 < 2 ^ 8
+  pub well : wellFormedBlock s ≡ true
+  pub sized : length memory ≡ size (decodeControl s .pages)
+
+-- by the number that the definitions give
+refusal : (s memory : List ℕ) (x : Call) → ((a : ℕ) → getD s a 0 < 2 ^ 8) → wellFormedBlock s ≡ true
+    → {k : ℕ} → number slots (decodeControl s) (length memory) x ≡ suc k → Comes s memory x (Refused (refusalOf (suc k))) s memory
+unfolding blockAnswer blockAfter blockMemory answeredOf answeredWith memoryOf memoryWith decode
+refusal s memory x bytes well e = (rw (well, e), rw (well, e) (sym (unfold decode in encode-decode s bytes well)), rw (well, e))
+
+pub wrong-length : (s memory : List ℕ) (x : Call) → ((a : ℕ) → getD s a 0 < 2 ^ 8) → wellFormedBlock s ≡ true
+    → eqb (length memory) (size (decodeControl s .pages)) ≡ false → Comes s memory x (Refused MemoryLength) s memory
+unfolding refusalOf
+wrong-length s memory x bytes well e = refusal s memory x bytes well {k = 1} (unfold number first in rw (well-control s well, e))
+
+-- an operation that does nothing to memory leaves it, done or refused
+untouched : (s memory : List ℕ) (x : Call) (o : Operation) (unused : List ℕ) → row x ≡ (o, unused)
+    → memory-after (decodeControl s) (drop 92 s) memory o ≡ memory → memory ≡ ownMemory s memory x
+unfolding ownMemory
+untouched s memory x o unused r e = go (ownNumber s x)
+  where
+    is : operation x ≡ o
+    is = unfold operation in ap (λ (p : Operation × List ℕ). p .0) r
+
+    go : (k : ℕ) → memory ≡ whenDone k (memory-after (decodeControl s) (drop 92 s) memory (operation x)) memory
+    go zero = sym (rw is e)
+    go (suc k) = refl
+
+module _ {s memory : List ℕ} (ready : Ready s memory) (x : Call) where
+  pub unknown : (leb 1 (x .op) && leb (x .op) 15) ≡ false → Comes s memory x (Refused UnknownOperation) s memory
+  unfolding refusalOf
+  unknown e = refusal s memory x (ready .bytes) (ready .well) {k = 2}
+      (unfold number first in rw (well-control s (ready .well), eq-eqb _ _ (ready .sized), e))
+
+  number-own : 1 ≤ x .op → x .op ≤ 15 → number slots (decodeControl s) (length memory) x ≡ ownNumber s x
+  unfolding number first ownNumber
+  number-own l h = rw (well-control s (ready .well), eq-eqb _ _ (ready .sized), le-leb 1 (x .op) l, le-leb (x .op) 15 h)
+
+  done : number slots (decodeControl s) (length memory) x ≡ 0 → ownNumber s x ≡ 0
+      → Comes s memory x (ownAnswer s x) (ownBlock s memory x) (ownMemory s memory x)
+  unfolding ownAnswer ownBlock ownMemory blockAnswer blockAfter blockMemory answeredOf answeredWith memoryOf memoryWith decode
+  done n e = (rw (ready .well, n, e), rw (ready .well, n, e), rw (ready .well, n, e))
+
+  known : 1 ≤ x .op → x .op ≤ 15 → Comes s memory x (ownAnswer s x) (ownBlock s memory x) (ownMemory s memory x)
+  unfolding ownAnswer ownBlock ownMemory
+  known l h = go (ownNumber s x) refl
+    where
+      go : (k : ℕ) → ownNumber s x ≡ k → Comes s memory x (ownAnswer s x) (ownBlock s memory x) (ownMemory s memory x)
+      go zero e = done (number-own l h ∙ e) e
+      go (suc k) e = rw e (refusal s memory x (ready .bytes) (ready .well) (number-own l h ∙ e))
+
+  -- code that does as its operation's own line says
+  pub by-its-line : {a : Answer} {s' memory' : List ℕ} → 1 ≤ x .op → x .op ≤ 15
+      → a ≡ ownAnswer s x → s' ≡ ownBlock s memory x → memory' ≡ ownMemory s memory x → Comes s memory x a s' memory'
+  by-its-line l h answers blocks memories = let k = known l h in (answers ∙ k .0, blocks ∙ k .1, memories ∙ k .2)
+
+  -- the same, of an operation that does nothing to memory
+  pub beside-memory : {a : Answer} {s' : List ℕ} {o : Operation} {unused : List ℕ} → row x ≡ (o, unused)
+      → memory-after (decodeControl s) (drop 92 s) memory o ≡ memory → 1 ≤ x .op → x .op ≤ 15
+      → a ≡ ownAnswer s x → s' ≡ ownBlock s memory x → Comes s memory x a s' memory
+  beside-memory r e l h answers blocks = by-its-line l h answers blocks (untouched s memory x _ _ r e)

@@ -1,0 +1,40 @@
+-- 01, The small program: the listing that document 01 gives, and what it prints. Proved in proofs/Examples.antt. Assumes nothing.
+use mathlib.Core.Path.{_≡_}
+use mathlib.Core.List.{List, [], _∷_}
+use Prim.Native.Nat.{ℕ}
+use lib.ListN.{replicate}
+use Rattle.chip.specs.declared.Call.{Call}
+use Rattle.chip.specs.declared.Answer.{Answer}
+use Rattle.chip.specs.Operations.{ask}
+use Rattle.chip.specs.State.{freshOf}
+use Rattle.chip.specs.Answers.{numberOf, valueOf, passOf, writtenOf}
+use Rattle.chip.specs.Calls.{answersOf}
+
+-- the calls
+unfoldable pub listing : List Call
+listing =
+    ask 1 0 0 0 0 0
+    ∷ ask 4 0 0 0 0 0
+    ∷ ask 11 0 0 15 3 16909060
+    ∷ ask 5 0 0 0 0 0
+    ∷ ask 7 0 0 0 0 0
+    ∷ ask 2 0 0 0 0 0
+    ∷ ask 5 0 0 0 0 0
+    ∷ []
+
+-- number, value, pass, written
+unfoldable pub printed : List Answer → List (List ℕ)
+printed [] = []
+printed (a ∷ rest) = (numberOf a ∷ valueOf a ∷ passOf a ∷ writtenOf a ∷ []) ∷ printed rest
+
+-- P = 2, zero memory and a fresh chip
+unfoldable pub Listing : Type 0
+Listing = printed (answersOf (freshOf 2) (replicate 10240 0) listing)
+    ≡ (0 ∷ 0 ∷ 0 ∷ 0 ∷ [])
+    ∷ (0 ∷ 0 ∷ 0 ∷ 0 ∷ [])
+    ∷ (0 ∷ 0 ∷ 1 ∷ 1 ∷ [])
+    ∷ (0 ∷ 4 ∷ 0 ∷ 0 ∷ [])
+    ∷ (0 ∷ 16909060 ∷ 0 ∷ 0 ∷ [])
+    ∷ (0 ∷ 0 ∷ 0 ∷ 0 ∷ [])
+    ∷ (7 ∷ 0 ∷ 0 ∷ 0 ∷ [])
+    ∷ []

@@ -1,0 +1,69 @@
+-- The column table: 1,280 column numbers, and the same as bytes. Assumes nothing.
+use mathlib.Core.Bool.{cond, not}
+use mathlib.Core.List.{List, [], _∷_}
+use Prim.Native.Nat.{ℕ, zero, suc, _+_, _*_, _/_, _%_, _^_}
+use lib.Dec.{eqb, ltb}
+use lib.ListN.{length}
+use Rattle.numbers.specs.Numbers.{first, whenDone}
+use Rattle.columns.specs.declared.Column.{Column}
+use Rattle.columns.specs.declared.Column.the-variants.{Entry, OffScreen}
+use Rattle.columns.specs.declared.Filled.{Filled}
+use Rattle.columns.specs.declared.Filled.the-variants.{Whole, WrongLength}
+
+-- the list of n entries whose entry k is f k
+unfoldable pub table : ℕ → (ℕ → ℕ) → List ℕ
+table zero f = []
+table (suc n) f = f zero ∷ table n (λ k. f (suc k))
+
+-- 01, Memory: entry x of the column table is 1024 × ((x mod 160) div 80) + 128 × (x div 160) + x mod 80
+unfoldable pub columnEntry : ℕ → ℕ
+columnEntry x = 1024 * (x % 160 / 80) + 128 * (x / 160) + x % 80
+
+-- 01, Memory: the library holds a constant table of 1,280 column numbers
+unfoldable pub columnTable : List ℕ
+columnTable = table 1280 columnEntry
+
+-- 01, Memory: an x of 1280 or more gives 8
+unfoldable pub columnNumber : ℕ → ℕ
+columnNumber x = first ((8, not (ltb x 1280)) ∷ [])
+
+-- 01, Memory: and entry 0
+unfoldable pub columnGiven : ℕ → ℕ
+columnGiven x = whenDone (columnNumber x) (columnEntry x) 0
+
+-- ---- 01, Expected form: the answer is an enum, whose number is columnNumber and whose entry is columnGiven: found-number and found-entry of proofs/Entries.antt
+
+unfoldable pub columnFound : ℕ → Column
+columnFound x = cond (ltb x 1280) (Entry (columnEntry x)) OffScreen
+
+abbrev pub foundNumber : Column → ℕ
+foundNumber (Entry entry) = 0
+foundNumber OffScreen = 8
+
+abbrev pub foundEntry : Column → ℕ
+foundEntry (Entry entry) = entry
+foundEntry OffScreen = 0
+
+-- ---- 01, Memory: the C drawing program indexes columns: the table in its own buffer, 1,280 entries of 16 bits, the lower byte first
+
+-- byte j of the buffer: of entry j / 2, its byte j % 2
+unfoldable pub columnByte : ℕ → ℕ
+columnByte j = columnEntry (j / 2) / 256 ^ (j % 2) % 256
+
+unfoldable pub columnBytes : List ℕ
+columnBytes = table 2560 columnByte
+
+-- a buffer of another length gives 4
+unfoldable pub columnsNumber : ℕ → ℕ
+columnsNumber len = first ((4, not (eqb len 2560)) ∷ [])
+
+-- and stays as it is
+unfoldable pub columnsLeft : List ℕ → List ℕ
+columnsLeft buffer = whenDone (columnsNumber (length buffer)) columnBytes buffer
+
+unfoldable pub filledOf : ℕ → Filled
+filledOf len = cond (eqb len 2560) Whole WrongLength
+
+abbrev pub filledNumber : Filled → ℕ
+filledNumber Whole = 0
+filledNumber WrongLength = 4

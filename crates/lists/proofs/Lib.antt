@@ -1,0 +1,5 @@
+pub mod Updates
+pub mod Words
+pub mod Alike
+pub mod Runs
+pub mod Stores

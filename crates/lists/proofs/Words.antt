@@ -1,0 +1,107 @@
+-- The laws of a number of 16 or of 32 bits in a list of bytes: its bytes, what is put and then read, and a loop that puts words. Assumes nothing.
+use mathlib.Core.Path.{_≡_, sym, ap, _∙_}
+use mathlib.Core.List.{List}
+use Prim.Native.Nat.{ℕ, _+_, _*_, _/_, _%_, _^_, _<_, _≤_}
+use native.Mathlib.Nat.{add-zero, zero-add, add-assoc, mul-add, div-one, mod-eq-of-lt}
+use native.Mathlib.Omega.{arith}
+use lib.Dec.{lit<}
+use lib.ListN.{length, getD, set, drop}
+use lib.Pow.{shr-lt}
+use lib.Seq.{getD-drop}
+use Rattle.bits.specs.Bits.{byte, wordIn}
+use Rattle.bits.proofs.Bytes.{join-bytes, joined-lt, byte-word-in}
+use Rattle.bits.proofs.Laws.{byte-lt}
+use Rattle.lists.specs.Update.{update}
+use Rattle.lists.specs.Words.{halfAt, putHalf, wordAt, putWord}
+use Rattle.lists.proofs.Updates.{length-update, update-same, update-at, update-ext, update-more, update-all}
+
+-- the byte stores of code, one after the other
+pub half-stores : (p x : ℕ) (s : List ℕ) → x < 2 ^ 16 → set (set s p (x % 256)) (p + 1) (x / 256) ≡ putHalf p x s
+unfolding putHalf update byte
+half-stores p x s h =
+    let high : x / 256 % 256 ≡ x / 256 = mod-eq-of-lt (shr-lt 8 8 h) in
+    rw (add-zero p, div-one x, high)
+
+pub word-stores : (p x : ℕ) (s : List ℕ) → x < 2 ^ 32
+    → set (set (set (set s p (x % 256)) (p + 1) (x / 256 % 256)) (p + 2) (x / 65536 % 256)) (p + 3) (x / 16777216) ≡ putWord p x s
+unfolding putWord update byte
+word-stores p x s h =
+    let high : x / 16777216 % 256 ≡ x / 16777216 = mod-eq-of-lt (shr-lt 8 24 h) in
+    rw (add-zero p, div-one x, high)
+
+-- ---- a number is its bytes
+
+module _ (s : List ℕ) (p : ℕ) (bytes : (a : ℕ) → getD s a 0 < 2 ^ 8) where
+  pub half-at-lt : halfAt s p < 2 ^ 16
+  unfolding halfAt
+  half-at-lt = omega (arith, bytes p, bytes (p + 1))
+
+  pub word-at-lt : wordAt s p < 2 ^ 32
+  unfolding wordAt
+  word-at-lt = joined-lt _ _ _ _ (bytes p) (bytes (p + 1)) (bytes (p + 2)) (bytes (p + 3))
+
+  -- byte n of the word at p
+  pub byte-word-at : (n : ℕ) → n < 4 → byte (wordAt s p) n ≡ getD s (p + n) 0
+  unfolding wordAt wordIn
+  byte-word-at n h = rw (add-zero p, zero-add n) at (byte-word-in (λ i. getD s (p + i) 0) 0 n (λ i. bytes (p + i)) h)
+
+-- a part's word is the whole's
+pub word-drop : (k q : ℕ) (s : List ℕ) → wordAt (drop k s) q ≡ wordAt s (k + q)
+unfolding wordAt
+word-drop k q s = simp (getD-drop, add-assoc)
+
+-- ---- what is put is read
+
+module _ (p x : ℕ) (s : List ℕ) where
+  pub length-put-half : length (putHalf p x s) ≡ length s
+  unfolding putHalf
+  length-put-half = length-update 2 (λ n. p + n) (λ n was. byte x n) s
+
+  pub length-put-word : length (putWord p x s) ≡ length s
+  unfolding putWord
+  length-put-word = length-update 4 (λ n. p + n) (λ n was. byte x n) s
+
+  -- byte n of the m bytes put at p
+  byte-put : (m n : ℕ) → n < m → p + m ≤ length s → getD (update m (λ n. p + n) (λ n was. byte x n) s) (p + n) 0 ≡ byte x n
+  byte-put m n h fit = update-same m (λ n. p + n) (λ n was. byte x n) s (λ i j hi hj e. omega arith) (λ i hi. omega arith) n h
+
+  pub half-put-same : p + 1 < length s → x < 2 ^ 16 → halfAt (putHalf p x s) p ≡ x
+  unfolding halfAt putHalf
+  half-put-same fit h =
+      let first = rw (add-zero p) at (byte-put 2 0 (lit< tt) (omega arith)) in
+      rw (first, byte-put 2 1 (lit< tt) (omega arith)) (unfold byte in omega arith)
+
+  pub word-put-same : p + 3 < length s → x < 2 ^ 32 → wordAt (putWord p x s) p ≡ x
+  unfolding wordAt putWord
+  word-put-same fit h =
+      let first = rw (add-zero p) at (byte-put 4 0 (lit< tt) (omega arith)) in
+      rw (first, byte-put 4 1 (lit< tt) (omega arith), byte-put 4 2 (lit< tt) (omega arith), byte-put 4 3 (lit< tt) (omega arith)) (join-bytes x h)
+
+  -- bytes stay bytes
+  pub bytes-put-half : ((a : ℕ) → getD s a 0 < 2 ^ 8) → (a : ℕ) → getD (putHalf p x s) a 0 < 2 ^ 8
+  unfolding putHalf
+  bytes-put-half = update-all (λ y. y < 2 ^ 8) 2 (λ n. p + n) (λ n was. byte x n) s (λ n was hn h. byte-lt x n)
+
+  pub bytes-put-word : ((a : ℕ) → getD s a 0 < 2 ^ 8) → (a : ℕ) → getD (putWord p x s) a 0 < 2 ^ 8
+  unfolding putWord
+  bytes-put-word = update-all (λ y. y < 2 ^ 8) 4 (λ n. p + n) (λ n was. byte x n) s (λ n was hn h. byte-lt x n)
+
+-- ---- a word put is four bytes updated
+
+-- where byte n of x is what the rule makes of the byte at a + n
+pub word-at-once : (a x : ℕ) (at : ℕ → ℕ) (v : ℕ → ℕ → ℕ) (l : List ℕ) → ((n : ℕ) → n < 4 → at n ≡ a + n)
+    → ((n : ℕ) → n < 4 → byte x n ≡ v n (getD l (a + n) 0)) → putWord a x l ≡ update 4 at v l
+unfolding putWord
+word-at-once a x at v l here q =
+    update-ext 4 (λ n. a + n) (λ n was. byte x n) v l (λ i j hi hj e. omega arith) q
+    ∙ update-at 4 (λ n. a + n) at v l (λ n h. sym (here n h))
+
+-- one turn of a loop that goes word by word
+pub word-turn : (w a x : ℕ) (at : ℕ → ℕ) (v : ℕ → ℕ → ℕ) (l part : List ℕ) → part ≡ update (4 * w) at v l
+    → ((n : ℕ) → n < 4 → at (4 * w + n) ≡ a + n) → ((n : ℕ) → n < 4 → byte x n ≡ v (4 * w + n) (getD part (a + n) 0))
+    → putWord a x part ≡ update (4 * (w + 1)) at v l
+word-turn w a x at v l part e here q =
+    word-at-once a x (λ n. at (4 * w + n)) (λ n. v (4 * w + n)) part here q
+    ∙ ap (update 4 (λ n. at (4 * w + n)) (λ n. v (4 * w + n))) e
+    ∙ sym (update-more (4 * w) 4 at v l)
+    ∙ ap (λ (m : ℕ). update m at v l) (sym (mul-add 4 w 1))

@@ -1,0 +1,85 @@
+// Which operands a call may have: document 01's ranges, and 0 for what its line does not list. No branch: all are tested at once.
+use chip::Call;
+ghost use mathlib.Core.Path.{_≡_};
+ghost use mathlib.Core.Bool.{_&&_};
+ghost use mathlib.Core.List.{[], _∷_};
+ghost use lib.Dec.{leb, ltb};
+ghost use lib.ListN.{length};
+ghost use Rattle.chip.specs.Operations.{allZero};
+ghost use Rattle.block.specs.Block.{decodeControl};
+
+fn two_zero(a: u32, b: u32) -> bool
+    ensures { λ r. ⌜ r ≡ allZero (a ∷ b ∷ []) ⌝ }
+{
+    (a == 0) & (b == 0)
+}
+
+fn three_zero(a: u32, b: u32, c: u32) -> bool
+    ensures { λ r. ⌜ r ≡ allZero (a ∷ b ∷ c ∷ []) ⌝ }
+{
+    (a == 0) & (b == 0) & (c == 0)
+}
+
+fn four_zero(a: u32, b: u32, c: u32, d: u32) -> bool
+    ensures { λ r. ⌜ r ≡ allZero (a ∷ b ∷ c ∷ d ∷ []) ⌝ }
+{
+    (a == 0) & (b == 0) & (c == 0) & (d == 0)
+}
+
+// 1 and 3: bank, page.
+pub fn page_fits(s: &[u8], x: Call) -> bool
+    requires { ⌜ length (now s) ≡ 348 ⌝ }
+    ensures { λ r. ⌜ r ≡ (ltb (x .a) 4 && ltb (x .b) (decodeControl (now (s .entry)) .pages) && allZero (x .c ∷ x .d ∷ x .given ∷ [])) ⌝ }
+{
+    let pages = block::fields::pages(s);
+    (x.a < 4) & (x.b < (pages as u32)) & three_zero(x.c, x.d, x.given)
+}
+
+// 2: bank.
+pub fn bank_fits(x: Call) -> bool
+    ensures { λ r. ⌜ r ≡ (ltb (x .a) 4 && allZero (x .b ∷ x .c ∷ x .d ∷ x .given ∷ [])) ⌝ }
+{
+    (x.a < 4) & four_zero(x.b, x.c, x.d, x.given)
+}
+
+// 4 to 6: bank, block, slot.
+pub fn block_fits(x: Call) -> bool
+    ensures { λ r. ⌜ r ≡ (ltb (x .a) 4 && ltb (x .b) 40 && ltb (x .c) 8 && allZero (x .d ∷ x .given ∷ [])) ⌝ }
+{
+    (x.a < 4) & (x.b < 40) & (x.c < 8) & two_zero(x.d, x.given)
+}
+
+// 7: slot, word.
+pub fn word_fits(x: Call) -> bool
+    ensures { λ r. ⌜ r ≡ (ltb (x .a) 8 && ltb (x .b) 8 && allZero (x .c ∷ x .d ∷ x .given ∷ [])) ⌝ }
+{
+    (x.a < 8) & (x.b < 8) & three_zero(x.c, x.d, x.given)
+}
+
+// 8 to 11: slot, word, byte enables, pass-in, data.
+pub fn write_fits(x: Call) -> bool
+    ensures { λ r. ⌜ r ≡ (ltb (x .a) 8 && ltb (x .b) 8 && ltb (x .c) 16 && ltb (x .d) 4 && allZero []) ⌝ }
+{
+    (x.a < 8) & (x.b < 8) & (x.c < 16) & (x.d < 4)
+}
+
+// 12 and 13: slot, data.
+pub fn slot_fits(x: Call) -> bool
+    ensures { λ r. ⌜ r ≡ (ltb (x .a) 8 && allZero (x .b ∷ x .c ∷ x .d ∷ [])) ⌝ }
+{
+    (x.a < 8) & three_zero(x.b, x.c, x.d)
+}
+
+// 14: register number, data.
+pub fn register_fits(x: Call) -> bool
+    ensures { λ r. ⌜ r ≡ (leb 1 (x .a) && leb (x .a) 7 && allZero (x .b ∷ x .c ∷ x .d ∷ [])) ⌝ }
+{
+    (1 <= x.a) & (x.a <= 7) & three_zero(x.b, x.c, x.d)
+}
+
+// 15: register number.
+pub fn number_fits(x: Call) -> bool
+    ensures { λ r. ⌜ r ≡ (leb 1 (x .a) && leb (x .a) 7 && allZero (x .b ∷ x .c ∷ x .d ∷ x .given ∷ [])) ⌝ }
+{
+    (1 <= x.a) & (x.a <= 7) & four_zero(x.b, x.c, x.d, x.given)
+}

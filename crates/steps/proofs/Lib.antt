@@ -1,4 +1,0 @@
-pub mod Rows
-pub mod Owns
-pub mod Zeros
-pub mod Changes

@@ -1,0 +1,158 @@
+-- A call leaves each array of a chip its length and each number its width. Assumes nothing.
+use mathlib.Core.Path.{_≡_, refl}
+use mathlib.Core.Bool.{Bool, true, false, cond}
+use mathlib.Core.List.{List}
+use Prim.Native.Nat.{ℕ, zero, suc, _+_, _-_, _%_, _^_, _<_}
+use native.Mathlib.Nat.{mod-lt, lt-trans}
+use lib.Bits.{bitOr, or-lt}
+use lib.Dec.{eqb, lit<}
+use lib.Pow.{pow-pos}
+use lib.ListN.{length, getD, set, length-set}
+use Rattle.bits.proofs.Laws.{word-lt}
+use Rattle.numbers.specs.Numbers.{whenDone}
+use Rattle.lists.specs.Update.{update}
+use Rattle.bank.specs.Work.{loaded}
+use Rattle.lists.proofs.Updates.{length-update, update-all}
+use Rattle.chip.specs.declared.Answered.{Answered}
+use Rattle.chip.specs.declared.Call.{Call}
+use Rattle.chip.specs.declared.Chip.{Chip}
+use Rattle.chip.specs.declared.Control.{Control}
+use Rattle.chip.specs.State.{slots, closed}
+use Rattle.chip.specs.Operations.{Operation, access, precharge, duplicate, readBlock, writeBlock, dataRead, dataWrite, writeTag, writeRegister, readRegister, unknown, row, operation, inRange}
+use Rattle.chip.specs.Painting.{painted, marked, tagWith}
+use Rattle.chip.specs.Steps.{withRegister, counted, tagOf, control-after, pixels-after}
+use Rattle.chip.specs.Refusals.{number}
+use Rattle.chip.specs.Calls.{readIn, answeredWith, answeredOf}
+use Rattle.chip.proofs.Accepted.{accepted, page-range}
+use Rattle.block.proofs.RoundTrip.{Sized}
+
+-- n numbers, each below m
+record Listed (n m : ℕ) (l : List ℕ) : Type 0 where
+  long : length l ≡ n
+  fit : (j : ℕ) → getD l j 0 < m
+
+listed-set : {n m : ℕ} {l : List ℕ} → Listed n m l → (p y : ℕ) → y < m → Listed n m (set l p y)
+unfolding update
+listed-set {n} {m} {l} k p y h = record {
+  long = simp length-set (k .long);
+  fit = update-all (λ v. v < m) 1 (λ i. p) (λ i was. y) l (λ i was hi hw. h) (k .fit);
+}
+
+-- ---- an operation that is done
+
+-- that what a tag or a register takes is a word
+abbrev Word : Operation → Type 0
+Word (access bank page) = Unit {0}
+Word (precharge bank) = Unit {0}
+Word (duplicate bank page) = Unit {0}
+Word (readBlock bank block slot) = Unit {0}
+Word (writeBlock masked bank block slot) = Unit {0}
+Word (dataRead slot word) = Unit {0}
+Word (dataWrite w) = Unit {0}
+Word (writeTag replace slot tag) = tag < 2 ^ 32
+Word (writeRegister number value) = value < 2 ^ 32
+Word (readRegister number) = Unit {0}
+Word unknown = Unit {0}
+
+module _ (c : Control) (pixels memory : List ℕ) (old : ℕ) (z : Sized (record { control = c; pixels = pixels })) where
+  banks : Listed 4 (2 ^ 16) (c .banks)
+  banks = record { long = z .banks-long; fit = z .banks-fit }
+
+  registers : Listed 7 (2 ^ 32) (c .registers)
+  registers = record { long = z .registers-long; fit = z .registers-fit }
+
+  tags : Listed 8 (2 ^ 32) (c .tags)
+  tags = record { long = z .tags-long; fit = z .tags-fit }
+
+  -- with such arrays, and the counter advanced
+  made : {banks' registers' tags' pixels' : List ℕ} {picking hit : Bool}
+      → Listed 4 (2 ^ 16) banks' → Listed 7 (2 ^ 32) registers' → Listed 8 (2 ^ 32) tags' → length pixels' ≡ 256
+      → Sized (record {
+        control = record {
+          pages = c .pages;
+          banks = banks';
+          registers = registers';
+          picking = picking;
+          hit = hit;
+          counter = (c .counter + 1) % 2 ^ 32;
+          tags = tags';
+        };
+        pixels = pixels';
+      })
+  made b r t p = record {
+    pages-fit = z .pages-fit;
+    banks-long = b .long;
+    banks-fit = b .fit;
+    registers-long = r .long;
+    registers-fit = r .fit;
+    counter-fits = mod-lt (c .counter + 1) (pow-pos 32);
+    tags-long = t .long;
+    tags-fit = t .fit;
+    pixels-long = p;
+  }
+
+  page-fits : (b p : ℕ) → inRange slots (c .pages) (access b p) ≡ true → p < 2 ^ 16
+  unfolding inRange
+  page-fits b p r = lt-trans (page-range slots (c .pages) b p r .1) (z .pages-fit)
+
+  tag-fits : (replace : Bool) (slot tag : ℕ) → tag < 2 ^ 32 → cond replace tag (bitOr (tagOf c slot) tag) < 2 ^ 32
+  unfolding tagOf
+  tag-fits true slot tag h = h
+  tag-fits false slot tag h = or-lt 32 (getD (c .tags) slot 0) tag (z .tags-fit slot) h
+
+  register-fits : (six : Bool) (value : ℕ) → value < 2 ^ 32 → cond six (value % 2 ^ 24) value < 2 ^ 32
+  register-fits true value h = lt-trans (mod-lt value (pow-pos 24)) (lit< tt)
+  register-fits false value h = h
+
+  done-sized : (o : Operation) → inRange slots (c .pages) o ≡ true → Word o
+      → Sized (record { control = counted (control-after slots c o old); pixels = pixels-after slots c pixels memory o old })
+  unfolding counted control-after pixels-after withRegister loaded painted tagWith marked closed inRange
+  done-sized (access b p) r w = made (listed-set banks b p (page-fits b p r)) registers tags (z .pixels-long)
+  done-sized (precharge b) r w = made (listed-set banks b 65535 (lit< tt)) registers tags (z .pixels-long)
+  done-sized (duplicate b p) r w = made (listed-set banks b p (page-fits b p r)) registers tags (z .pixels-long)
+  done-sized (readBlock b k s) r w = made banks registers (listed-set tags s 0 (lit< tt)) (simp length-update (z .pixels-long))
+  done-sized (writeBlock m b k s) r w = made banks registers tags (z .pixels-long)
+  done-sized (dataRead s k) r w = made banks registers tags (z .pixels-long)
+  done-sized (dataWrite d) r w = made banks registers (listed-set tags _ _ (word-lt 32 _)) (simp length-update (z .pixels-long))
+  done-sized (writeTag m s t) r w = made banks registers (listed-set tags s _ (tag-fits m s t w)) (z .pixels-long)
+  done-sized (writeRegister a v) r w = made banks (listed-set registers (a - 1) _ (register-fits (eqb a 6) v w)) tags (z .pixels-long)
+  done-sized (readRegister a) r w = made banks registers tags (z .pixels-long)
+  done-sized unknown r w = made banks registers tags (z .pixels-long)
+
+-- ---- a call
+
+-- line by line of the table: the data is a tag at 12 and 13, and a register's value at 14
+word-given : (x : Call) → x .given < 2 ^ 32 → Word (operation x)
+unfolding operation row
+word-given x h = go (x .op)
+  where
+    go : (op : ℕ) → Word (operation (record { op = op; a = x .a; b = x .b; c = x .c; d = x .d; given = x .given }))
+    go zero = tt
+    go (suc zero) = tt
+    go (suc (suc zero)) = tt
+    go (suc (suc (suc zero))) = tt
+    go (suc (suc (suc (suc zero)))) = tt
+    go (suc (suc (suc (suc (suc zero))))) = tt
+    go (suc (suc (suc (suc (suc (suc zero)))))) = tt
+    go (suc (suc (suc (suc (suc (suc (suc zero))))))) = tt
+    go (suc (suc (suc (suc (suc (suc (suc (suc zero)))))))) = tt
+    go (suc (suc (suc (suc (suc (suc (suc (suc (suc zero))))))))) = tt
+    go (suc (suc (suc (suc (suc (suc (suc (suc (suc (suc zero)))))))))) = tt
+    go (suc (suc (suc (suc (suc (suc (suc (suc (suc (suc (suc zero))))))))))) = tt
+    go (suc (suc (suc (suc (suc (suc (suc (suc (suc (suc (suc (suc zero)))))))))))) = h
+    go (suc (suc (suc (suc (suc (suc (suc (suc (suc (suc (suc (suc (suc zero))))))))))))) = h
+    go (suc (suc (suc (suc (suc (suc (suc (suc (suc (suc (suc (suc (suc (suc zero)))))))))))))) = h
+    go (suc (suc (suc (suc (suc (suc (suc (suc (suc (suc (suc (suc (suc (suc (suc zero))))))))))))))) = tt
+    go (suc (suc (suc (suc (suc (suc (suc (suc (suc (suc (suc (suc (suc (suc (suc (suc op)))))))))))))))) = tt
+
+-- done or refused
+whenDone-sized : (k : ℕ) (a b : Answered) → (k ≡ 0 → Sized (a .chip)) → Sized (b .chip) → Sized (whenDone k a b .chip)
+whenDone-sized zero a b done refused = done refl
+whenDone-sized (suc k) a b done refused = refused
+
+pub stays-sized : (chip : Chip) (memory : List ℕ) (x : Call) → Sized chip → x .given < 2 ^ 32 → Sized (answeredOf chip memory x .chip)
+unfolding answeredOf answeredWith
+stays-sized chip memory x z h = whenDone-sized (number slots (chip .control) (length memory) x) _ _
+    (λ e. done-sized (chip .control) (chip .pixels) memory (readIn (chip .pixels) x) z (operation x)
+    (accepted slots (chip .control) (length memory) x e .in-range) (word-given x h))
+    z

@@ -1,0 +1,24 @@
+-- `stored::store` meets its contract: the pixels behind the control part. Assumes nothing.
+use native.Mathlib.Omega.{arith}
+use denote.Ref.{now}
+use borrow.Author.Needs.{needs}
+use Rattle.block.proofs.RoundTrip.{Sized}
+use Rattle.stored.proofs.Sizes.{sized}
+use Rattle.stored.proofs.Stores.{chip-stored}
+use Rattle.stored.proofs.store.Statement.{statement}
+use Rattle.stored.proofs.store.Tie as tie
+
+whole : (c : tie.Start) → Sized (c .args .chip)
+whole c = sized (c .args .chip) _ (c .good .1 .0)
+
+put-bytes-requires : tie.Need-put-bytes-requires
+put-bytes-requires c κs = omega (arith, whole (c .before .before .before .before .before .before .before .before .before) .pixels-long)
+
+returns : tie.Need-returns
+returns c =
+    let control = c .before .before .before .before .before .before .before in
+    let start = control .before .before .before .before .before in
+    chip-stored (start .args .chip) (now (start .args .s)) (whole start) (start .pre) (control .put-control .ensures) (c .before .before .put-bytes .ensures)
+
+pub store-spec : {M : Type 1} → statement M
+store-spec = tie.close (tie.spec (λ c κs. search needs) (λ c. search needs) put-bytes-requires (λ c. search needs) returns)

@@ -1,0 +1,26 @@
+-- `stored::tags` meets its contract: the eight tags. Assumes nothing.
+use borrow.Author.Needs.{needs}
+use Rattle.chip.specs.Steps.{tagOf}
+use Rattle.lists.specs.Words.{wordsAt}
+use Rattle.block.specs.Block.{decodeControl}
+use Rattle.stored.proofs.tags.Statement.{statement}
+use Rattle.stored.proofs.tags.Tie as tie
+
+returns : tie.Need-returns
+unfolding tagOf decodeControl wordsAt
+returns c =
+    rw (
+      c .tag8 .ensures,
+      c .before .tag7 .ensures,
+      c .before .before .tag6 .ensures,
+      c .before .before .before .tag5 .ensures,
+      c .before .before .before .before .tag4 .ensures,
+      c .before .before .before .before .before .tag3 .ensures,
+      c .before .before .before .before .before .before .tag2 .ensures,
+      c .before .before .before .before .before .before .before .tag .ensures,
+    )
+
+pub tags-spec : {M : Type 1} → statement M
+tags-spec = tie.close
+    (tie.spec (λ c κs. search needs) (λ c κs. search needs) (λ c κs. search needs) (λ c κs. search needs) (λ c κs. search needs) (λ c κs. search needs)
+    (λ c κs. search needs) (λ c κs. search needs) returns)
