@@ -9,9 +9,9 @@ use lib.Dec.{eqb}
 use lib.ListN.{getD}
 use borrow.Author.Tests.{eq-eqb, ne-eqb}
 use Rattle.bits.specs.Bits.{joined}
-use Rattle.lists.specs.Words.{halfAt, wordAt, halvesAt}
+use Rattle.lists.specs.Words.{halfAt, wordAt, rowAt, halvesAt}
 use Rattle.lists.proofs.Words.{half-at-lt}
-use Rattle.block.specs.Block.{header, same}
+use Rattle.block.specs.Block.{banksAt, registersAt, flagsAt, tagsAt, pixelsAt, blockBytes, header, same}
 
 -- ---- the header
 
@@ -21,9 +21,13 @@ two-halves s p =
     let e : p + 2 + 1 ≡ p + 3 = omega arith in
     rw e (omega arith)
 
+-- two fields as one word
+abbrev pub pair : ℕ → ℕ → ℕ
+pair x y = x + y * 2 ^ 16
+
 -- two half words are two numbers exactly if their word is those two
 pair-test : (s : List ℕ) (p x y : ℕ) → ((a : ℕ) → getD s a 0 < 2 ^ 8) → x < 2 ^ 16
-    → (eqb (halfAt s p) x && eqb (halfAt s (p + 2)) y) ≡ eqb (wordAt s p) (x + y * 2 ^ 16)
+    → (eqb (halfAt s p) x && eqb (halfAt s (p + 2)) y) ≡ eqb (wordAt s p) (pair x y)
 pair-test s p x y bytes hx = go (ℕ-discrete (halfAt s p) x) (ℕ-discrete (halfAt s (p + 2)) y)
   where
     halves : wordAt s p ≡ halfAt s p + halfAt s (p + 2) * 2 ^ 16
@@ -32,11 +36,11 @@ pair-test s p x y bytes hx = go (ℕ-discrete (halfAt s p) x) (ℕ-discrete (hal
     low : halfAt s p < 2 ^ 16
     low = half-at-lt s p bytes
 
-    go : Dec (halfAt s p ≡ x) → Dec (halfAt s (p + 2) ≡ y) → (eqb (halfAt s p) x && eqb (halfAt s (p + 2)) y) ≡ eqb (wordAt s p) (x + y * 2 ^ 16)
-    go (yes e) (yes f) = rw (eq-eqb (halfAt s p) x e, eq-eqb (halfAt s (p + 2)) y f) (sym (eq-eqb (wordAt s p) (x + y * 2 ^ 16) (omega (arith, halves, e, f))))
+    go : Dec (halfAt s p ≡ x) → Dec (halfAt s (p + 2) ≡ y) → (eqb (halfAt s p) x && eqb (halfAt s (p + 2)) y) ≡ eqb (wordAt s p) (pair x y)
+    go (yes e) (yes f) = rw (eq-eqb (halfAt s p) x e, eq-eqb (halfAt s (p + 2)) y f) (sym (eq-eqb (wordAt s p) (pair x y) (omega (arith, halves, e, f))))
     go (yes e) (no g) = rw (eq-eqb (halfAt s p) x e, ne-eqb (halfAt s (p + 2)) y g)
-        (sym (ne-eqb (wordAt s p) (x + y * 2 ^ 16) (λ q. g (omega (arith, halves, e, q)))))
-    go (no f) r = rw (ne-eqb (halfAt s p) x f) (sym (ne-eqb (wordAt s p) (x + y * 2 ^ 16) (λ q. f (omega (arith, halves, q, low, hx)))))
+        (sym (ne-eqb (wordAt s p) (pair x y) (λ q. g (omega (arith, halves, e, q)))))
+    go (no f) r = rw (ne-eqb (halfAt s p) x f) (sym (ne-eqb (wordAt s p) (pair x y) (λ q. f (omega (arith, halves, q, low, hx)))))
 
 regroup : (a b c d e f g : Bool) → (a && (b && (c && (d && (e && (f && (g && true))))))) ≡ (a && ((b && c) && ((d && e) && (f && g))))
 regroup false b c d e f g = refl
@@ -50,11 +54,11 @@ regroup true true true true true true false = refl
 
 -- the header's test, as code makes it
 pub header-test : (s : List ℕ) → ((a : ℕ) → getD s a 0 < 2 ^ 8) → same (halvesAt 8 s 0) (header (halfAt s 0))
-    ≡ (eqb (halfAt s 2) 8 && (eqb (wordAt s 4) 0x0018_0010 && (eqb (wordAt s 8) 0x003c_0034 && eqb (wordAt s 12) 0x015c_005c)))
-unfolding same halvesAt header
+    ≡ (eqb (halfAt s 2) 8 && (eqb (wordAt s 4) (pair banksAt registersAt) && (eqb (wordAt s 8) (pair flagsAt tagsAt) && eqb (wordAt s 12) (pair pixelsAt blockBytes))))
+unfolding same rowAt header
 header-test s bytes =
     rw (eq-eqb (halfAt s 0) (halfAt s 0) refl)
-    (regroup (eqb (halfAt s 2) 8) (eqb (halfAt s 4) 16) (eqb (halfAt s 6) 24) (eqb (halfAt s 8) 52) (eqb (halfAt s 10) 60) (eqb (halfAt s 12) 92) (eqb (halfAt s 14) 348)
+    (regroup (eqb (halfAt s 2) 8) (eqb (halfAt s 4) banksAt) (eqb (halfAt s 6) registersAt) (eqb (halfAt s 8) flagsAt) (eqb (halfAt s 10) tagsAt) (eqb (halfAt s 12) pixelsAt) (eqb (halfAt s 14) blockBytes)
     ∙ ap (λ (t : Bool). eqb (halfAt s 2) 8 && t)
-    (ap₂ _&&_ (pair-test s 4 16 24 bytes (omega arith))
-    (ap₂ _&&_ (pair-test s 8 52 60 bytes (omega arith)) (pair-test s 12 92 348 bytes (omega arith)))))
+    (ap₂ _&&_ (pair-test s 4 banksAt registersAt bytes (omega arith))
+    (ap₂ _&&_ (pair-test s 8 flagsAt tagsAt bytes (omega arith)) (pair-test s 12 pixelsAt blockBytes bytes (omega arith)))))

@@ -1,3 +1,5 @@
+pub mod Sized
+pub mod Parts
 pub mod RoundTrip
-pub mod Held
+pub mod Puts
 pub mod Forms

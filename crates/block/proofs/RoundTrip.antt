@@ -1,37 +1,29 @@
--- A chip written and read is that chip, and a well formed block read and written is that block. Assumes nothing.
+-- A chip written and read is that chip, and a well formed block read and written is that block: each by its parts in a row. Assumes nothing.
 use mathlib.Core.Path.{_≡_, refl, sym, ap, ap₂, _∙_}
 use mathlib.Core.Bool.{Bool, true, false, _&&_, false≢true}
-use mathlib.Core.List.{List, [], _∷_, _++_, append-assoc}
+use mathlib.Core.List.{List, [], _∷_, flatten}
 use Prim.Native.Nat.{ℕ, zero, suc, _+_, _*_, _%_, _^_, _<_}
 use native.Mathlib.Omega.{arith}
 use native.Mathlib.Nat.{lt-trans}
 use lib.Bits.{bitAnd, and-mask}
 use lib.Dec.{eqb, lit<}
-use lib.ListN.{length, getD, take, drop, length-append, take-append-drop}
-use lib.Seq.{drop-at, drop-drop}
+use lib.ListN.{length, getD, take, drop, length-drop}
+use lib.Seq.{length-take-le}
 use borrow.Author.Tests.{eqb-true, eq-eqb}
 use Rattle.bits.specs.Bits.{bit, digit, within}
 use Rattle.numbers.proofs.Tests.{and-left, and-right}
-use Rattle.lists.specs.Words.{halfAt, wordAt, halves, words, halvesAt, wordsAt}
+use Rattle.lists.specs.Words.{halfAt, wordAt, rowAt, halves, words, halvesAt, wordsAt}
+use Rattle.lists.proofs.Seams.{startOf, part-in, cut, total, cut-whole}
+use Rattle.lists.proofs.Words.{half-at-lt, word-at-lt}
+use Rattle.lists.proofs.Rows.{length-row-at, halves-in, words-in, halves-back, words-back, halves-lt, words-lt}
 use Rattle.chip.specs.declared.Control.{Control}
 use Rattle.chip.specs.declared.Chip.{Chip}
 use Rattle.chip.specs.State.{wellFormed}
-use Rattle.block.specs.Block.{header, flags, encodeControl, encode, decodeControl, decode, same, wellFormedBlock}
-use Rattle.lists.proofs.Runs.{length-halves, length-words, read-halves, read-words, halves-back, words-back}
+use Rattle.block.specs.Block.{banksAt, registersAt, flagsAt, tagsAt, pixelsAt, pixelBytes, blockBytes, IsBlock, counterAt, header, flags, controlParts, parts, encode, decodeControl, pixelsIn, decode, same, wellFormedBlock}
+use Rattle.block.proofs.Sized.{Listed, Sized}
+use Rattle.block.proofs.Parts.{starts, length-encode}
 
--- ---- a chip
-
--- each array has its length, and each number its width: what every chip that code holds has
-pub record Sized (chip : Chip) : Type 0 where
-  pub pages-fit : chip .control .pages < 2 ^ 16
-  pub banks-long : length (chip .control .banks) ≡ 4
-  pub banks-fit : (j : ℕ) → getD (chip .control .banks) j 0 < 2 ^ 16
-  pub registers-long : length (chip .control .registers) ≡ 7
-  pub registers-fit : (j : ℕ) → getD (chip .control .registers) j 0 < 2 ^ 32
-  pub counter-fits : chip .control .counter < 2 ^ 32
-  pub tags-long : length (chip .control .tags) ≡ 8
-  pub tags-fit : (j : ℕ) → getD (chip .control .tags) j 0 < 2 ^ 32
-  pub pixels-long : length (chip .pixels) ≡ 256
+-- ---- the flags' word
 
 pub flags-four : (p h : Bool) → digit p + digit h * 2 < 4
 flags-four true true = lit< tt
@@ -71,93 +63,27 @@ unfolding same
 same-self [] = refl
 same-self (x ∷ xs) = rw (eq-eqb x x refl, same-self xs)
 
--- five parts in a row
-regroup : (a b c d e f : List ℕ) → (a ++ (b ++ (c ++ (d ++ e)))) ++ f ≡ a ++ (b ++ (c ++ (d ++ (e ++ f))))
-regroup a b c d e f =
-    append-assoc a (b ++ (c ++ (d ++ e))) f
-    ∙ ap (λ (l : List ℕ). a ++ l)
-    (append-assoc b (c ++ (d ++ e)) f
-    ∙ ap (λ (l : List ℕ). b ++ l) (append-assoc c (d ++ e) f ∙ ap (λ (l : List ℕ). c ++ l) (append-assoc d e f)))
+-- ---- a chip
 
 module _ (chip : Chip) (z : Sized chip) where
   abbrev c : Control
   c = chip .control
 
-  abbrev H : List ℕ
-  H = halves (header (c .pages))
-
-  abbrev B : List ℕ
-  B = halves (c .banks)
-
-  abbrev R : List ℕ
-  R = words (c .registers)
-
-  abbrev F : List ℕ
-  F = words (flags c ∷ c .counter ∷ [])
-
-  abbrev T : List ℕ
-  T = words (c .tags)
-
-  abbrev X : List ℕ
-  X = chip .pixels
-
-  length-H : length H ≡ 16
-  unfolding halves header
-  length-H = refl
-
-  length-B : length B ≡ 8
-  length-B = length-halves (c .banks) ∙ ap (λ (n : ℕ). 2 * n) (z .banks-long)
-
-  length-R : length R ≡ 28
-  length-R = length-words (c .registers) ∙ ap (λ (n : ℕ). 4 * n) (z .registers-long)
-
-  length-F : length F ≡ 8
-  length-F = length-words (flags c ∷ c .counter ∷ [])
-
-  length-T : length T ≡ 32
-  length-T = length-words (c .tags) ∙ ap (λ (n : ℕ). 4 * n) (z .tags-long)
-
-  parts : encode chip ≡ H ++ (B ++ (R ++ (F ++ (T ++ X))))
-  unfolding encode encodeControl
-  parts = regroup H B R F T X
-
-  length-HB : length (H ++ B) ≡ 24
-  length-HB = length-append H B ∙ ap₂ _+_ length-H length-B
-
-  length-HBR : length ((H ++ B) ++ R) ≡ 52
-  length-HBR = length-append (H ++ B) R ∙ ap₂ _+_ length-HB length-R
-
-  length-HBRF : length (((H ++ B) ++ R) ++ F) ≡ 60
-  length-HBRF = length-append ((H ++ B) ++ R) F ∙ ap₂ _+_ length-HBR length-F
-
-  pub length-control : length (encodeControl c) ≡ 92
-  unfolding encodeControl
-  length-control =
-      length-append H (B ++ (R ++ (F ++ T)))
-      ∙ ap₂ _+_ length-H (length-append B (R ++ (F ++ T))
-      ∙ ap₂ _+_ length-B (length-append R (F ++ T)
-      ∙ ap₂ _+_ length-R (length-append F T ∙ ap₂ _+_ length-F length-T)))
-
-  from-R : encode chip ≡ (H ++ B) ++ (R ++ (F ++ (T ++ X)))
-  from-R = parts ∙ sym (append-assoc H B (R ++ (F ++ (T ++ X))))
-
-  from-F : encode chip ≡ ((H ++ B) ++ R) ++ (F ++ (T ++ X))
-  from-F = from-R ∙ sym (append-assoc (H ++ B) R (F ++ (T ++ X)))
-
-  from-T : encode chip ≡ (((H ++ B) ++ R) ++ F) ++ (T ++ X)
-  from-T = from-F ∙ sym (append-assoc ((H ++ B) ++ R) F (T ++ X))
-
+  -- each field of the header is of 16 bits
   header-fits : (j : ℕ) → getD (header (c .pages)) j 0 < 2 ^ 16
   unfolding header
   header-fits zero = z .pages-fit
-  header-fits (suc zero) = lit< tt
-  header-fits (suc (suc zero)) = lit< tt
-  header-fits (suc (suc (suc zero))) = lit< tt
-  header-fits (suc (suc (suc (suc zero)))) = lit< tt
-  header-fits (suc (suc (suc (suc (suc zero))))) = lit< tt
-  header-fits (suc (suc (suc (suc (suc (suc zero)))))) = lit< tt
-  header-fits (suc (suc (suc (suc (suc (suc (suc zero))))))) = lit< tt
-  header-fits (suc (suc (suc (suc (suc (suc (suc (suc j)))))))) = lit< tt
+  header-fits (suc j) = go j
+    where
+      go : (j : ℕ) → getD (8 ∷ banksAt ∷ registersAt ∷ flagsAt ∷ tagsAt ∷ pixelsAt ∷ blockBytes ∷ []) j 0 < 2 ^ 16
+      go zero = lit< tt
+      go (suc zero) = lit< tt
+      go (suc (suc zero)) = lit< tt
+      go (suc (suc (suc zero))) = lit< tt
+      go (suc (suc (suc (suc zero)))) = lit< tt
+      go (suc (suc (suc (suc (suc zero))))) = lit< tt
+      go (suc (suc (suc (suc (suc (suc zero)))))) = lit< tt
+      go (suc (suc (suc (suc (suc (suc (suc j))))))) = lit< tt
 
   flags-fit : (j : ℕ) → getD (flags c ∷ c .counter ∷ []) j 0 < 2 ^ 32
   unfolding flags
@@ -165,52 +91,64 @@ module _ (chip : Chip) (z : Sized chip) where
   flags-fit (suc zero) = z .counter-fits
   flags-fit (suc (suc j)) = lit< tt
 
+  -- each part, read from its place
   header-back : halvesAt 8 (encode chip) 0 ≡ header (c .pages)
-  unfolding header
-  header-back = read-halves (encode chip) [] (header (c .pages)) (B ++ (R ++ (F ++ (T ++ X)))) 0 8 parts refl refl header-fits
+  unfolding encode parts controlParts header startOf
+  header-back = halves-in 0 (parts chip) (lit< tt) (header (c .pages)) refl 0 8 refl refl header-fits
 
+  banks-back : halvesAt 4 (encode chip) banksAt ≡ c .banks
+  unfolding encode parts controlParts
+  banks-back = halves-in 1 (parts chip) (lit< tt) (c .banks) refl banksAt 4 (starts chip z .0) (z .banks .long) (z .banks .fit)
+
+  registers-back : wordsAt 7 (encode chip) registersAt ≡ c .registers
+  unfolding encode parts controlParts
+  registers-back = words-in 2 (parts chip) (lit< tt) (c .registers) refl registersAt 7 (starts chip z .1) (z .registers .long) (z .registers .fit)
+
+  flags-back : wordsAt 2 (encode chip) flagsAt ≡ flags c ∷ c .counter ∷ []
+  unfolding encode parts controlParts
+  flags-back = words-in 3 (parts chip) (lit< tt) (flags c ∷ c .counter ∷ []) refl flagsAt 2 (starts chip z .2) refl flags-fit
+
+  tags-back : wordsAt 8 (encode chip) tagsAt ≡ c .tags
+  unfolding encode parts controlParts
+  tags-back = words-in 4 (parts chip) (lit< tt) (c .tags) refl tagsAt 8 (starts chip z .3) (z .tags .long) (z .tags .fit)
+
+  pixels-back : pixelsIn (encode chip) ≡ chip .pixels
+  unfolding encode parts controlParts pixelsIn
+  pixels-back = part-in 5 (parts chip) (lit< tt) pixelsAt pixelBytes (starts chip z .4) (z .pixels-long)
+
+  -- the first number of a row
   pages-half : halfAt (encode chip) 0 ≡ c .pages
-  unfolding halvesAt header
+  unfolding rowAt header
   pages-half = ap (λ (l : List ℕ). getD l 0 0) header-back
 
-  flags-back : wordsAt 2 (encode chip) 52 ≡ flags c ∷ c .counter ∷ []
-  flags-back = read-words (encode chip) ((H ++ B) ++ R) (flags c ∷ c .counter ∷ []) (T ++ X) 52 2 from-F length-HBR refl flags-fit
-
-  flags-word : wordAt (encode chip) 52 ≡ flags c
-  unfolding wordsAt
+  flags-word : wordAt (encode chip) flagsAt ≡ flags c
+  unfolding rowAt
   flags-word = ap (λ (l : List ℕ). getD l 0 0) flags-back
 
-  pixels-back : drop 92 (encode chip) ≡ X
-  unfolding encode
-  pixels-back = drop-at (encodeControl c) X 92 length-control
+  counter-word : wordAt (encode chip) counterAt ≡ c .counter
+  unfolding rowAt
+  counter-word = ap (λ (l : List ℕ). getD l 1 0) flags-back
 
-  pub decode-encode : decode (encode chip) ≡ chip
-  unfolding decode decodeControl halvesAt wordsAt flags header
-  decode-encode = λ i. record {
-    control = record {
-      pages = pages-half i;
-      banks = read-halves (encode chip) H (c .banks) (R ++ (F ++ (T ++ X))) 16 4 parts length-H (z .banks-long) (z .banks-fit) i;
-      registers = read-words (encode chip) (H ++ B) (c .registers) (F ++ (T ++ X)) 24 7 from-R length-HB (z .registers-long) (z .registers-fit) i;
-      picking = (ap (λ (x : ℕ). bit x 0) flags-word ∙ flag-0 (c .picking) (c .hit)) i;
-      hit = (ap (λ (x : ℕ). bit x 1) flags-word ∙ flag-1 (c .picking) (c .hit)) i;
-      counter = ap (λ (l : List ℕ). getD l 1 0) flags-back i;
-      tags = read-words (encode chip) (((H ++ B) ++ R) ++ F) (c .tags) X 60 8 from-T length-HBRF (z .tags-long) (z .tags-fit) i;
-    };
-    pixels = pixels-back i;
+  pub control-read : decodeControl (encode chip) ≡ c
+  unfolding decodeControl flags
+  control-read = λ i. record {
+    pages = pages-half i;
+    banks = banks-back i;
+    registers = registers-back i;
+    picking = (ap (λ (f : ℕ). bit f 0) flags-word ∙ flag-0 (c .picking) (c .hit)) i;
+    hit = (ap (λ (f : ℕ). bit f 1) flags-word ∙ flag-1 (c .picking) (c .hit)) i;
+    counter = counter-word i;
+    tags = tags-back i;
   }
 
-  pub length-encode : length (encode chip) ≡ 348
-  unfolding encode
-  length-encode = length-append (encodeControl c) X ∙ ap₂ _+_ length-control (z .pixels-long)
-
-  control-read : decodeControl (encode chip) ≡ c
+  pub decode-encode : decode (encode chip) ≡ chip
   unfolding decode
-  control-read = ap (λ (k : Chip). k .control) decode-encode
+  decode-encode = λ i. record { control = control-read i; pixels = pixels-back i }
 
   -- a chip is well formed exactly if its block is
   pub encoded-well : wellFormedBlock (encode chip) ≡ wellFormed c
   unfolding wellFormedBlock
-  encoded-well = rw (length-encode, header-back, pages-half, same-self (header (c .pages)), flags-word, flags-within c, control-read)
+  encoded-well = rw (length-encode chip z, header-back, pages-half, same-self (header (c .pages)), flags-word, flags-within c, control-read)
 
 -- ---- a block
 
@@ -235,71 +173,52 @@ within-3 : (f : ℕ) → within f 3 ≡ true → f < 4
 unfolding within
 within-3 f e = let q : f % 4 ≡ f = sym (and-mask f 2) ∙ eqb-true (bitAnd f 3) f e in omega arith
 
--- what a block of this form has: its length, its header, its flags
-pub record Framed (s : List ℕ) : Type 0 where
-  pub long : length s ≡ 348
-  pub bytes : (a : ℕ) → getD s a 0 < 2 ^ 8
-  pub headed : halvesAt 8 s 0 ≡ header (halfAt s 0)
-  pub flagged : wordAt s 52 < 4
-
 -- what each part of the test says
 pub well-parts : (s : List ℕ) → wellFormedBlock s ≡ true
-    → (length s ≡ 348) × (halvesAt 8 s 0 ≡ header (halfAt s 0)) × (wordAt s 52 < 4) × (wellFormed (decodeControl s) ≡ true)
+    → IsBlock s × (halvesAt 8 s 0 ≡ header (halfAt s 0)) × (wordAt s flagsAt < 4) × (wellFormed (decodeControl s) ≡ true)
 unfolding wellFormedBlock
 well-parts s well =
-    let long = eqb (length s) 348 in
+    let long = eqb (length s) blockBytes in
     let headed = same (halvesAt 8 s 0) (header (halfAt s 0)) in
-    let flagged = within (wordAt s 52) 3 in
+    let flagged = within (wordAt s flagsAt) 3 in
     let three = and-left (long && headed && flagged) (wellFormed (decodeControl s)) well in
     let two = and-left (long && headed) flagged three in (
-      eqb-true (length s) 348 (and-left long headed two),
+      eqb-true (length s) blockBytes (and-left long headed two),
       same-is _ _ (and-right long headed two),
-      within-3 (wordAt s 52) (and-right (long && headed) flagged three),
+      within-3 (wordAt s flagsAt) (and-right (long && headed) flagged three),
       and-right (long && headed && flagged) (wellFormed (decodeControl s)) well,
     )
 
-pub well-framed : (s : List ℕ) → ((a : ℕ) → getD s a 0 < 2 ^ 8) → wellFormedBlock s ≡ true → Framed s
-well-framed s bytes well = let parts = well-parts s well in record { long = parts .0; bytes = bytes; headed = parts .1; flagged = parts .2 }
+module _ (s : List ℕ) (bytes : (a : ℕ) → getD s a 0 < 2 ^ 8) where
+  -- the chip that any block holds is sized
+  pub decoded-sized : IsBlock s → Sized (decode s)
+  unfolding decode decodeControl pixelsIn
+  decoded-sized long = record {
+    pages-fit = half-at-lt s 0 bytes;
+    banks = record { long = length-row-at 2 halfAt 4 s banksAt; fit = halves-lt s bytes 4 banksAt };
+    registers = record { long = length-row-at 4 wordAt 7 s registersAt; fit = words-lt s bytes 7 registersAt };
+    counter-fits = word-at-lt s counterAt bytes;
+    tags = record { long = length-row-at 4 wordAt 8 s tagsAt; fit = words-lt s bytes 8 tagsAt };
+    pixels-long = length-take-le pixelBytes (drop pixelsAt s) (omega (arith, length-drop pixelsAt s, long));
+  }
 
-module _ (s : List ℕ) (framed : Framed s) where
-  size-is : length s ≡ 348
-  size-is = framed .long
+  module _ (well : wellFormedBlock s ≡ true) where
+    long : IsBlock s
+    long = well-parts s well .0
 
-  fit : (a : ℕ) → getD s a 0 < 2 ^ 8
-  fit = framed .bytes
+    -- each part written is the block cut at the parts' widths
+    parts-back : parts (decode s) ≡ cut 0 (16 ∷ 8 ∷ 28 ∷ 8 ∷ 32 ∷ 256 ∷ []) s
+    unfolding parts controlParts decode decodeControl pixelsIn flags cut
+    parts-back =
+        let h = ap halves (sym (well-parts s well .1)) ∙ halves-back s bytes 8 0 (omega (arith, long)) in
+        let b = halves-back s bytes 4 banksAt (omega (arith, long)) in
+        let r = words-back s bytes 7 registersAt (omega (arith, long)) in
+        let two : words (wordAt s flagsAt ∷ wordAt s counterAt ∷ []) ≡ take 8 (drop flagsAt s) = unfold rowAt in words-back s bytes 2 flagsAt (omega (arith, long)) in
+        let f = ap (λ (x : ℕ). words (x ∷ wordAt s counterAt ∷ [])) (flags-two (wordAt s flagsAt) (well-parts s well .2)) ∙ two in
+        let t = words-back s bytes 8 tagsAt (omega (arith, long)) in
+        λ i. h i ∷ b i ∷ r i ∷ f i ∷ t i ∷ take 256 (drop 92 s) ∷ []
 
-  header-is : header (halfAt s 0) ≡ halvesAt 8 s 0
-  header-is = sym (framed .headed)
-
-  flags-are : flags (decodeControl s) ∷ decodeControl s .counter ∷ [] ≡ wordsAt 2 s 52
-  unfolding flags decodeControl wordsAt
-  flags-are = ap (λ (f : ℕ). f ∷ wordAt s 56 ∷ []) (flags-two (wordAt s 52) (framed .flagged))
-
-  -- n bytes from p on, and the rest
-  joint : (n p : ℕ) → take n (drop p s) ++ drop (p + n) s ≡ drop p s
-  joint n p = ap (λ (l : List ℕ). take n (drop p s) ++ l) (sym (drop-drop n p s)) ∙ take-append-drop n (drop p s)
-
-  control-back : encodeControl (decodeControl s)
-      ≡ take 16 (drop 0 s) ++ (take 8 (drop 16 s) ++ (take 28 (drop 24 s) ++ (take 8 (drop 52 s) ++ take 32 (drop 60 s))))
-  unfolding encodeControl decodeControl
-  control-back =
-      let h = ap halves header-is ∙ halves-back s fit 8 0 (omega (arith, size-is)) in
-      let b = halves-back s fit 4 16 (omega (arith, size-is)) in
-      let r = words-back s fit 7 24 (omega (arith, size-is)) in
-      let f = ap words flags-are ∙ words-back s fit 2 52 (omega (arith, size-is)) in
-      let t = words-back s fit 8 60 (omega (arith, size-is)) in
-      ap₂ _++_ h (ap₂ _++_ b (ap₂ _++_ r (ap₂ _++_ f t)))
-
-  pub framed-back : encode (decode s) ≡ s
-  unfolding encode decode
-  framed-back =
-      ap (λ (l : List ℕ). l ++ drop 92 s) control-back
-      ∙ regroup (take 16 (drop 0 s)) (take 8 (drop 16 s)) (take 28 (drop 24 s)) (take 8 (drop 52 s)) (take 32 (drop 60 s)) (drop 92 s)
-      ∙ ap (λ (l : List ℕ). take 16 (drop 0 s) ++ l)
-      (ap (λ (l : List ℕ). take 8 (drop 16 s) ++ l)
-      (ap (λ (l : List ℕ). take 28 (drop 24 s) ++ l) (ap (λ (l : List ℕ). take 8 (drop 52 s) ++ l) (joint 32 60) ∙ joint 8 52) ∙ joint 28 24) ∙ joint 8 16)
-      ∙ joint 16 0
-
--- a well formed block read and stored is the same bytes
-pub encode-decode : (s : List ℕ) → ((a : ℕ) → getD s a 0 < 2 ^ 8) → wellFormedBlock s ≡ true → encode (decode s) ≡ s
-encode-decode s bytes well = framed-back s (well-framed s bytes well)
+    -- a well formed block read and stored is the same bytes
+    pub encode-decode : encode (decode s) ≡ s
+    unfolding encode total
+    encode-decode = ap flatten parts-back ∙ cut-whole (16 ∷ 8 ∷ 28 ∷ 8 ∷ 32 ∷ 256 ∷ []) s long

@@ -14,9 +14,9 @@ use Rattle.chip.specs.State.{freshOf}
 use Rattle.chip.specs.Answers.{packedOf}
 use Rattle.chip.specs.Refusals.{scanLineNumber}
 use Rattle.chip.specs.Calls.{answeredOf, memoryOf}
-use Rattle.block.specs.Block.{encode, decode, wellFormedBlock}
+use Rattle.block.specs.Block.{blockBytes, encode, decode, wellFormedBlock}
 
--- 01, Numbers, 1: block not 348 bytes, or state not well formed; else as the call answers
+-- 01, Numbers, 1: block not of its length, or state not well formed; else as the call answers
 unfoldable pub blockAnswer : List ℕ → List ℕ → Call → Answer
 blockAnswer s memory x = cond (wellFormedBlock s) (answeredOf (decode s) memory x .answer) (Refused IllFormed)
 
@@ -32,9 +32,9 @@ blockAfter s memory x = cond (wellFormedBlock s) (encode (answeredOf (decode s) 
 unfoldable pub blockMemory : List ℕ → List ℕ → Call → List ℕ
 blockMemory s memory x = cond (wellFormedBlock s) (memoryOf (decode s) memory x) memory
 
--- 01, Numbers: making a fresh chip: 1, block not 348 bytes, whatever it holds; 4, P outside 1 to 257
+-- 01, Numbers: making a fresh chip: 1, block not of its length, whatever it holds; 4, P outside 1 to 257
 unfoldable pub freshBlockNumber : List ℕ → ℕ → ℕ
-freshBlockNumber s P = first ((1, not (eqb (length s) 348)) ∷ (4, not (pagesFit P)) ∷ [])
+freshBlockNumber s P = first ((1, not (eqb (length s) blockBytes)) ∷ (4, not (pagesFit P)) ∷ [])
 
 unfoldable pub freshBlock : List ℕ → ℕ → List ℕ
 freshBlock s P = whenDone (freshBlockNumber s P) (encode (freshOf P)) s

@@ -1,31 +1,32 @@
 // Which blocks are well formed. Each test has a branch of its own, since nearly every call passes all of them.
 ghost use mathlib.Core.Path.{_≡_};
-ghost use lib.ListN.{length, getD};
+ghost use lib.ListN.{getD};
 ghost use Rattle.bits.specs.Bits.{every, within};
 ghost use Rattle.lists.specs.Words.{halfAt, halvesAt};
 ghost use Rattle.chip.specs.State.{openPage, pageFits, storable};
-ghost use Rattle.block.specs.Block.{header, same, decodeControl, wellFormedBlock};
+ghost use Rattle.block.specs.Block.{IsBlock, header, same, decodeControl, wellFormedBlock};
 use super::fields;
+use super::places;
 
-// Whether the header's fields but P are document 01's: 8, then pairs of 16 and 24, 52 and 60, 92 and 348, each pair as one word.
+// Whether the header's fields but P are document 01's: 8 slots, then the offsets and the length, two fields as one word.
 fn header_fits(s: &[u8]) -> bool
-    requires { ⌜ length (now s) ≡ 348 ⌝ }
+    requires { ⌜ IsBlock (now s) ⌝ }
     ensures { λ r. ⌜ r ≡ same (halvesAt 8 (now (s .entry)) 0) (header (halfAt (now (s .entry)) 0)) ⌝ }
 {
     if lists::half_at(s, 2) != 8 {
         return false;
     }
-    if lists::word_at(s, 4) != 0x0018_0010 {
+    if lists::word_at(s, 4) != places::BANKS_AND_REGISTERS {
         return false;
     }
-    if lists::word_at(s, 8) != 0x003c_0034 {
+    if lists::word_at(s, 8) != places::FLAGS_AND_TAGS {
         return false;
     }
-    lists::word_at(s, 12) == 0x015c_005c
+    lists::word_at(s, 12) == places::PIXELS_AND_LENGTH
 }
 
 fn banks_fit(s: &[u8]) -> bool
-    requires { ⌜ length (now s) ≡ 348 ⌝ }
+    requires { ⌜ IsBlock (now s) ⌝ }
     ensures { λ r. ⌜ r ≡ every 4 (λ bank. pageFits (decodeControl (now (s .entry)) .pages) (openPage (decodeControl (now (s .entry)) .banks) bank)) ⌝ }
 {
     let pages = fields::pages(s);
@@ -43,7 +44,7 @@ fn banks_fit(s: &[u8]) -> bool
 
 // Registers 1 to 4 may hold any bits.
 fn registers_fit(s: &[u8]) -> bool
-    requires { ⌜ length (now s) ≡ 348 ⌝ }
+    requires { ⌜ IsBlock (now s) ⌝ }
     ensures { λ r. ⌜ r ≡ every 7 (λ n. within (getD (decodeControl (now (s .entry)) .registers) n 0) (getD storable n 0)) ⌝ }
 {
     if !bits::within(fields::register(s, 5), 0x2f2f_2f2f) {
@@ -58,7 +59,7 @@ fn registers_fit(s: &[u8]) -> bool
 pub fn well_formed(s: &[u8]) -> bool
     ensures { λ r. ⌜ r ≡ wellFormedBlock (now (s .entry)) ⌝ }
 {
-    if s.len() != 348 {
+    if s.len() != places::BLOCK_BYTES {
         return false;
     }
     if !header_fits(s) {
@@ -73,5 +74,5 @@ pub fn well_formed(s: &[u8]) -> bool
     if !registers_fit(s) {
         return false;
     }
-    bits::within(lists::word_at(s, fields::FLAGS_AT), 3)
+    bits::within(lists::word_at(s, places::FLAGS_AT), 3)
 }

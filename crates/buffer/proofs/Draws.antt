@@ -7,7 +7,6 @@ use native.Mathlib.Nat.{mod-lt}
 use native.Mathlib.Omega.{arith}
 use lib.Bits.{bitOr, or-lt}
 use lib.Pow.{pow-pos}
-use lib.Seq.{getD-drop}
 use lib.Dec.{lit<}
 use lib.ListN.{getD, drop}
 use Rattle.bits.specs.Bits.{bit, wordIn}
@@ -19,21 +18,23 @@ use Rattle.pixel.proofs.Outcomes.{byte-outcome, taken-lt, into-slot-lt, into-wo
 use Rattle.numbers.proofs.Tests.{and-left}
 use Rattle.lists.specs.Words.{putWord}
 use Rattle.bank.specs.Work.{inSlot}
-use Rattle.lists.proofs.Words.{word-at-once}
+use Rattle.lists.proofs.Words.{word-at-once, part-bytes}
 use Rattle.chip.specs.declared.Control.{Control}
 use Rattle.chip.specs.declared.Call.{Call}
+use Rattle.chip.specs.declared.Answer.the-variants.{Done}
 use Rattle.chip.specs.State.{slots}
 use Rattle.chip.specs.Operations.{dataWrite}
 use Rattle.chip.specs.Painting.{painted, marked, tagWith}
-use Rattle.chip.specs.Steps.{tagOf, slotByte, oldWord, withTag, withHit, counted, control-after, pixels-after}
+use Rattle.chip.specs.Changes.{tagOf, withTag, withHit, ticked}
+use Rattle.chip.specs.Effects.{slotByte, reading, effect, pixelsAfter}
+use Rattle.chip.specs.Answers.{doneAnswer}
 use Rattle.chip.proofs.Tags.{mark-law}
-use Rattle.chip.proofs.Words.{slot-word}
-use Rattle.block.specs.Block.{flagsAt, encode, decodeControl, wellFormedBlock}
-use Rattle.block.proofs.Held.{Held, held-of, held-tag, held-flags, held-word}
-use Rattle.lists.proofs.Alike.{words-lt}
+use Rattle.chip.proofs.SlotWords.{slot-word}
+use Rattle.block.specs.Block.{flagsAt, encode, decodeControl, wellFormedBlock, pixelsIn, pixelsAt, pixelBytes}
+use Rattle.block.proofs.Puts.{Stores, stores-of, stores-tag, stores-flags, stores-word, ticks, control-stored}
+use Rattle.lists.proofs.Rows.{words-lt}
 use Rattle.own.specs.Own.{hitMarked, settled}
 use Rattle.own.proofs.Lines.{asked}
-use Rattle.own.proofs.Changes.{counts}
 
 -- ---- the destination's word
 
@@ -56,10 +57,10 @@ painted-word registers w old slot pixels bytes =
 -- ---- hit
 
 -- where the two flags are put, picking was on and hit is set; else both stay
-flags-put : {s : List ℕ} {c : Control} {pixels : List ℕ} → Held s c pixels → (b : Bool) → (b ≡ true → c .picking ≡ true)
-    → Held (cond b (putWord flagsAt 3 s) s) (withHit c (c .hit || b)) pixels
+flags-put : {s : List ℕ} {c : Control} {pixels : List ℕ} → Stores s c pixels → (b : Bool) → (b ≡ true → c .picking ≡ true)
+    → Stores (cond b (putWord flagsAt 3 s) s) (withHit c (c .hit || b)) pixels
 flags-put {s} {c} {pixels} h true on =
-    subst (λ (k : Control). Held (putWord flagsAt 3 s) k pixels) (λ i. record {
+    subst (λ (k : Control). Stores (putWord flagsAt 3 s) k pixels) (λ i. record {
       pages = c .pages;
       banks = c .banks;
       registers = c .registers;
@@ -67,34 +68,34 @@ flags-put {s} {c} {pixels} h true on =
       hit = sym (or-true (c .hit)) i;
       counter = c .counter;
       tags = c .tags;
-    }) (held-flags h true true)
-flags-put {s} {c} {pixels} h false on = subst (λ (b : Bool). Held s (withHit c b) pixels) (sym (or-false (c .hit))) h
+    }) (stores-flags h true true)
+flags-put {s} {c} {pixels} h false on = subst (λ (b : Bool). Stores s (withHit c b) pixels) (sym (or-false (c .hit))) h
 
-pub held-hit : {s : List ℕ} {c : Control} {pixels : List ℕ} (sets : Bool) → Held s c pixels
-    → Held (hitMarked sets s) (withHit c (c .hit || (c .picking && sets))) pixels
+pub held-hit : {s : List ℕ} {c : Control} {pixels : List ℕ} (sets : Bool) → Stores s c pixels
+    → Stores (hitMarked sets s) (withHit c (c .hit || (c .picking && sets))) pixels
 unfolding hitMarked
 held-hit {s} {c} {pixels} sets h =
-    subst (λ (p : Bool). Held (cond (p && sets) (putWord flagsAt 3 s) s) (withHit c (c .hit || (c .picking && sets))) pixels)
-    (sym (ap (λ (k : Control). k .picking) (h .control))) (flags-put h (c .picking && sets) (and-left (c .picking) sets))
+    subst (λ (p : Bool). Stores (cond (p && sets) (putWord flagsAt 3 s) s) (withHit c (c .hit || (c .picking && sets))) pixels)
+    (sym (ap (λ (k : Control). k .picking) (control-stored h))) (flags-put h (c .picking && sets) (and-left (c .picking) sets))
 
 -- ---- all of it
 
 tag-lt : (s : List ℕ) → ((a : ℕ) → getD s a 0 < 2 ^ 8) → (slot : ℕ) → tagOf (decodeControl s) slot < 2 ^ 32
 unfolding tagOf decodeControl
-tag-lt s bytes slot = words-lt 8 60 s bytes slot
+tag-lt s bytes slot = words-lt s bytes 8 60 slot
 
-module _ {s : List ℕ} {c : Control} {pixels : List ℕ} (h : Held s c pixels) (w : Write) (slot at : ℕ) (o : Outcome) where
+module _ {s : List ℕ} {c : Control} {pixels : List ℕ} (h : Stores s c pixels) (w : Write) (slot at : ℕ) (o : Outcome) where
   pub settled-is : slot < 8 → at < 8 → o .taken < 16 → tagOf c slot < 2 ^ 32 → settled w slot at o s ≡ encode (record {
-    control = counted (withHit (withTag c slot (marked (cond (w .initial) 0 (tagOf c slot)) at (o .taken))) (c .hit || (c .picking && (not (w .stateless) && o .written))));
+    control = ticked (withHit (withTag c slot (marked (cond (w .initial) 0 (tagOf c slot)) at (o .taken))) (c .hit || (c .picking && (not (w .stateless) && o .written))));
     pixels = putWord (inSlot slot (4 * at)) (o .word) pixels;
   })
   unfolding settled
   settled-is hs ha ht hg =
       let tag = bitOr (cond (w .initial) 0 (tagOf c slot)) (o .taken * 2 ^ (4 * at) % 2 ^ 32) in
-      let same : tagOf (decodeControl s) slot ≡ tagOf c slot = ap (λ (k : Control). tagOf k slot) (h .control) in
+      let same : tagOf (decodeControl s) slot ≡ tagOf c slot = ap (λ (k : Control). tagOf k slot) (control-stored h) in
       let marks : tag ≡ marked (cond (w .initial) 0 (tagOf c slot)) at (o .taken) = mark-law (cond (w .initial) 0 (tagOf c slot)) at (o .taken) (kept (w .initial) hg) ht in
       let fits : tag < 2 ^ 32 = or-lt 32 (cond (w .initial) 0 (tagOf c slot)) (o .taken * 2 ^ (4 * at) % 2 ^ 32) (kept (w .initial) hg) (mod-lt (o .taken * 2 ^ (4 * at)) (pow-pos 32)) in
-      rw (same) (counts (held-hit (not (w .stateless) && o .written) (held-tag (held-word h (inSlot slot (4 * at)) (o .word)) slot tag hs fits)) ∙ rw marks)
+      rw (same) (ticks (held-hit (not (w .stateless) && o .written) (stores-tag (stores-word h (inSlot slot (4 * at)) (o .word) (unfold inSlot in omega arith)) slot tag hs fits)) ∙ rw marks)
     where
       kept : (initial : Bool) → tagOf c slot < 2 ^ 32 → cond initial 0 (tagOf c slot) < 2 ^ 32
       kept true l = lit< tt
@@ -106,7 +107,7 @@ module _ (s : List ℕ) (bytes : (a : ℕ) → getD s a 0 < 2 ^ 8) (well : wellF
   registers = decodeControl s .registers
 
   abbrev old : ℕ
-  old = wordIn (slotByte (drop 92 s) (w .slot)) (w .word)
+  old = wordIn (slotByte (pixelsIn s) (w .slot)) (w .word)
 
   abbrev slot : ℕ
   slot = intoSlot 8 registers w
@@ -115,18 +116,24 @@ module _ (s : List ℕ) (bytes : (a : ℕ) → getD s a 0 < 2 ^ 8) (well : wellF
   at = intoWord registers w
 
   pub write-leaves : w .slot < 8 → w .word < 8 → w .enables < 16 → (memory : List ℕ)
-      → settled w slot at (outcomeOf registers w old (wordIn (slotByte (drop 92 s) slot) at)) s ≡ encode (record {
-        control = counted (control-after slots (decodeControl s) (dataWrite w) (oldWord (slotByte (drop 92 s)) (dataWrite w)));
-        pixels = pixels-after slots (decodeControl s) (drop 92 s) memory (dataWrite w) (oldWord (slotByte (drop 92 s)) (dataWrite w));
+      → settled w slot at (outcomeOf registers w old (wordIn (slotByte (pixelsIn s) slot) at)) s ≡ encode (record {
+        control = ticked (effect slots (decodeControl s) (dataWrite w) (reading (slotByte (pixelsIn s)) (dataWrite w)) .control);
+        pixels = pixelsAfter (decodeControl s) (pixelsIn s) memory (effect slots (decodeControl s) (dataWrite w) (reading (slotByte (pixelsIn s)) (dataWrite w)) .move);
       })
-  unfolding control-after pixels-after oldWord outcomeOf hits tagWith slots
+  unfolding effect pixelsAfter reading outcomeOf hits tagWith slots
   write-leaves hs hw he memory =
-      let o = outcomeOf registers w old (wordIn (slotByte (drop 92 s) slot) at) in
-      settled-is (held-of s bytes well) w slot at o (into-slot-lt 8 registers w hs) (into-word-lt registers w hw) (taken-lt registers w old he) (tag-lt s bytes slot)
+      let o = outcomeOf registers w old (wordIn (slotByte (pixelsIn s) slot) at) in
+      settled-is (stores-of s bytes well) w slot at o (into-slot-lt 8 registers w hs) (into-word-lt registers w hw) (taken-lt registers w old he) (tag-lt s bytes slot)
       ∙ ap (λ (l : List ℕ). encode (record {
-        control = counted (control-after slots (decodeControl s) (dataWrite w) old);
+        control = ticked (effect slots (decodeControl s) (dataWrite w) (record { old = old }) .control);
         pixels = l;
-      })) (painted-word registers w old slot (drop 92 s) (λ a. rw (getD-drop 92 s a 0) (bytes (92 + a))))
+      })) (painted-word registers w old slot (pixelsIn s) (unfold pixelsIn in part-bytes pixelsAt pixelBytes s bytes))
+
+-- what it answers: pass and written of the outcome, whatever stands at its destination
+pub write-answers : (s : List ℕ) (w : Write) (dest : ℕ) → (let o = outcomeOf (decodeControl s .registers) w (wordIn (slotByte (pixelsIn s) (w .slot)) (w .word)) dest in
+    Done 0 (o .pass) (o .written) ≡ doneAnswer (effect slots (decodeControl s) (dataWrite w) (reading (slotByte (pixelsIn s)) (dataWrite w))))
+unfolding effect reading outcomeOf
+write-answers s w dest = refl
 
 -- a stateless write goes where its operands say
 pub stateless-slot : (registers : List ℕ) (initial : Bool) (x : Call) → intoSlot 8 registers (asked true initial x) ≡ x .a

@@ -9,8 +9,8 @@ use borrow.Author.Tests.{leb-true}
 use Rattle.numbers.proofs.Tests.{and-left, and-right}
 use Rattle.chip.specs.declared.Control.{Control}
 use Rattle.chip.specs.State.{writable}
-use Rattle.chip.specs.Steps.{switched, withRegister}
-use Rattle.block.proofs.Held.{holding, flagging}
+use Rattle.chip.specs.Changes.{switched, withRegister}
+use Rattle.block.proofs.Parts.{holding, flagging}
 
 -- the numbers of registers
 pub register-range : (n : ℕ) → (leb 1 n && leb n 7) ≡ true → (1 ≤ n) × (n ≤ 7)

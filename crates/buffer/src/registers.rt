@@ -9,12 +9,12 @@ ghost use mathlib.Core.Path.{_≡_};
 ghost use mathlib.Core.Bool.{true};
 ghost use mathlib.Core.List.{List};
 ghost use Prim.Native.Nat.{ℕ, _+_, _-_, _*_, _/_, _%_, _^_, _<_, _≤_};
-ghost use lib.ListN.{length, getD};
+ghost use lib.ListN.{getD};
 ghost use Rattle.bits.specs.Bits.{digit};
 ghost use Rattle.lists.specs.Words.{putWord};
 ghost use Rattle.chip.specs.State.{writable};
-ghost use Rattle.chip.specs.Steps.{switched};
-ghost use Rattle.block.specs.Block.{registerAt, flagsAt, decodeControl, wellFormedBlock};
+ghost use Rattle.chip.specs.Changes.{switched};
+ghost use Rattle.block.specs.Block.{IsBlock, registerAt, flagsAt, decodeControl, wellFormedBlock};
 ghost use Rattle.own.specs.Own.{ownAnswer, ownBlock};
 
 // The bits that may be 1 in a write of a register. No table: an array that is indexed is copied at each use.
@@ -41,7 +41,7 @@ fn switched_by(two: u32, was: bool) -> bool
 
 // Compare control: bits 27 to 24 act on picking and hit, and are stored as 0.
 fn put_compare(s: &mut [u8], value: u32)
-    requires { ⌜ length (now s) ≡ 348 ⌝ }
+    requires { ⌜ IsBlock (now s) ⌝ }
     ensures { λ _. ⌜ now (s .exit) ≡ putWord flagsAt (digit (switched (value / 2 ^ 26 % 4) (decodeControl (now (s .entry)) .picking)) + digit (switched (value / 2 ^ 24 % 4) (decodeControl (now (s .entry)) .hit)) * 2) (putWord (registerAt 6) (value % 2 ^ 24) (now (s .entry))) ⌝ }
 {
     let picking = switched_by(value / 0x400_0000 % 4, fields::picking(s));
@@ -51,7 +51,7 @@ fn put_compare(s: &mut [u8], value: u32)
 }
 
 pub fn write_register(s: &mut [u8], x: Call) -> Answer
-    requires { ⌜ (length (now s) ≡ 348) × (wellFormedBlock (now s) ≡ true) × (x .op ≡ 14) ⌝ }
+    requires { ⌜ IsBlock (now s) × (wellFormedBlock (now s) ≡ true) × (x .op ≡ 14) ⌝ }
     ensures { λ r. ⌜ (r ≡ ownAnswer (now (s .entry)) x) × ((memory : List ℕ) → now (s .exit) ≡ ownBlock (now (s .entry)) memory x) ⌝ }
 {
     if !operands::register_fits(x) {
@@ -69,7 +69,7 @@ pub fn write_register(s: &mut [u8], x: Call) -> Answer
 }
 
 pub fn read_register(s: &mut [u8], x: Call) -> Answer
-    requires { ⌜ (length (now s) ≡ 348) × (wellFormedBlock (now s) ≡ true) × (x .op ≡ 15) ⌝ }
+    requires { ⌜ IsBlock (now s) × (wellFormedBlock (now s) ≡ true) × (x .op ≡ 15) ⌝ }
     ensures { λ r. ⌜ (r ≡ ownAnswer (now (s .entry)) x) × ((memory : List ℕ) → now (s .exit) ≡ ownBlock (now (s .entry)) memory x) ⌝ }
 {
     if !operands::number_fits(x) {

@@ -10,16 +10,15 @@ ghost use mathlib.Core.Path.{_≡_};
 ghost use mathlib.Core.Bool.{true, false};
 ghost use mathlib.Core.List.{List};
 ghost use Prim.Native.Nat.{ℕ, _<_, _≤_};
-ghost use lib.ListN.{length, drop};
 ghost use Rattle.bits.specs.Bits.{wordIn};
 ghost use Rattle.pixel.specs.Writes.{outcomeOf};
-ghost use Rattle.chip.specs.Steps.{slotByte};
-ghost use Rattle.block.specs.Block.{wellFormedBlock};
+ghost use Rattle.chip.specs.Effects.{slotByte};
+ghost use Rattle.block.specs.Block.{IsBlock, pixelsIn, wellFormedBlock};
 ghost use Rattle.own.specs.Own.{ownAnswer, ownBlock, hitMarked, settled};
 
 // Picking is on already where it matters, and hit is set: both bits of the flags.
 fn mark_hit(s: &mut [u8], hits: bool)
-    requires { ⌜ length (now s) ≡ 348 ⌝ }
+    requires { ⌜ IsBlock (now s) ⌝ }
     ensures { λ _. ⌜ now (s .exit) ≡ hitMarked hits (now (s .entry)) ⌝ }
 {
     if fields::picking(s) & hits {
@@ -29,14 +28,14 @@ fn mark_hit(s: &mut [u8], hits: bool)
 
 // A write's outcome, put at its destination: the word, its tag bits, hit, and one call more.
 fn settle(s: &mut [u8], w: Write, slot: u32, word: u32, o: Outcome) -> Answer
-    requires { ⌜ (length (now s) ≡ 348) × (slot < 8) × (word < 8) ⌝ }
+    requires { ⌜ IsBlock (now s) × (slot < 8) × (word < 8) ⌝ }
     ensures { λ r. ⌜ (r ≡ Answer.Done 0 (o .pass) (o .written)) × (now (s .exit) ≡ settled w slot word o (now (s .entry))) ⌝ }
 {
     let before = bits::pick(w.initial, 0, fields::tag(s, slot));
     fields::put_slot_word(s, slot, word, o.word);
     fields::put_tag(s, slot, before | (o.taken << (4 * word)));
     mark_hit(s, !w.stateless & o.written);
-    fields::count(s);
+    fields::tick(s);
     Answer::Done {
         value: 0,
         pass: o.pass,
@@ -46,8 +45,8 @@ fn settle(s: &mut [u8], w: Write, slot: u32, word: u32, o: Outcome) -> Answer
 
 // What a stateful write comes to, from the words where they lie.
 fn drawn(s: &[u8], registers: [u32; 7], w: Write, slot: u32, word: u32) -> Outcome
-    requires { ⌜ (length (now s) ≡ 348) × (w .stateless ≡ false) × (w .slot < 8) × (w .word < 8) × (slot < 8) × (word < 8) ⌝ }
-    ensures { λ r. ⌜ r ≡ outcomeOf registers w (wordIn (slotByte (drop 92 (now (s .entry))) (w .slot)) (w .word)) (wordIn (slotByte (drop 92 (now (s .entry))) slot) word) ⌝ }
+    requires { ⌜ IsBlock (now s) × (w .stateless ≡ false) × (w .slot < 8) × (w .word < 8) × (slot < 8) × (word < 8) ⌝ }
+    ensures { λ r. ⌜ r ≡ outcomeOf registers w (wordIn (slotByte (pixelsIn (now (s .entry))) (w .slot)) (w .word)) (wordIn (slotByte (pixelsIn (now (s .entry))) slot) word) ⌝ }
 {
     let old = fields::slot_word(s, w.slot, w.word);
     let dest = fields::slot_word(s, slot, word);
@@ -55,7 +54,7 @@ fn drawn(s: &[u8], registers: [u32; 7], w: Write, slot: u32, word: u32) -> Outco
 }
 
 pub fn stateful_write(s: &mut [u8], x: Call) -> Answer
-    requires { ⌜ (length (now s) ≡ 348) × (wellFormedBlock (now s) ≡ true) × (10 ≤ x .op) × (x .op ≤ 11) ⌝ }
+    requires { ⌜ IsBlock (now s) × (wellFormedBlock (now s) ≡ true) × (10 ≤ x .op) × (x .op ≤ 11) ⌝ }
     ensures { λ r. ⌜ (r ≡ ownAnswer (now (s .entry)) x) × ((memory : List ℕ) → now (s .exit) ≡ ownBlock (now (s .entry)) memory x) ⌝ }
 {
     if !operands::write_fits(x) {
@@ -79,7 +78,7 @@ pub fn stateful_write(s: &mut [u8], x: Call) -> Answer
 
 // Its destination is (slot, word) whatever the registers hold.
 pub fn stateless_write(s: &mut [u8], x: Call) -> Answer
-    requires { ⌜ (length (now s) ≡ 348) × (wellFormedBlock (now s) ≡ true) × (8 ≤ x .op) × (x .op ≤ 9) ⌝ }
+    requires { ⌜ IsBlock (now s) × (wellFormedBlock (now s) ≡ true) × (8 ≤ x .op) × (x .op ≤ 9) ⌝ }
     ensures { λ r. ⌜ (r ≡ ownAnswer (now (s .entry)) x) × ((memory : List ℕ) → now (s .exit) ≡ ownBlock (now (s .entry)) memory x) ⌝ }
 {
     if !operands::write_fits(x) {

@@ -13,16 +13,16 @@ use Rattle.chip.specs.declared.Answer.{Answer}
 use Rattle.chip.specs.declared.Answer.the-variants.{Refused}
 use Rattle.chip.specs.declared.Refusal.the-variants.{IllFormed, MemoryLength, UnknownOperation}
 use Rattle.chip.specs.State.{slots}
-use Rattle.chip.specs.Operations.{Operation, row, operation}
-use Rattle.chip.specs.Steps.{memory-after}
+use Rattle.chip.specs.Operations.{Operation, isOperation, row, operation}
+use Rattle.chip.specs.Effects.{reading, slotByte, Move, effect, memoryAfter}
 use Rattle.chip.specs.Answers.{refusalOf}
 use Rattle.chip.specs.Refusals.{number}
-use Rattle.chip.specs.Calls.{answeredWith, memoryWith, answeredOf, memoryOf}
-use Rattle.block.specs.Block.{decodeControl, decode, wellFormedBlock}
+use Rattle.chip.specs.Calls.{readIn, answeredWith, memoryWith, answeredOf, memoryOf}
+use Rattle.block.specs.Block.{decodeControl, decode, wellFormedBlock, pixelsIn}
 use Rattle.block.specs.OnBlock.{blockAnswer, blockAfter, blockMemory}
 use Rattle.block.proofs.RoundTrip.{encode-decode}
 use Rattle.own.specs.Own.{ownNumber, ownAnswer, ownBlock, ownMemory}
-use Rattle.own.proofs.Changes.{well-control}
+use Rattle.own.proofs.WellFormed.{well-control}
 
 -- what a call on a block comes to
 abbrev pub Comes : List ℕ → List ℕ → Call → Answer → List ℕ → List ℕ → Type 0
@@ -49,27 +49,31 @@ pub wrong-length : (s memory : List ℕ) (x : Call) → ((a : ℕ) → getD s a 
 unfolding refusalOf
 wrong-length s memory x bytes well e = refusal s memory x bytes well {k = 1} (unfold number first in rw (well-control s well, e))
 
+-- what an operation moves, if it is done
+abbrev does : List ℕ → Operation → Move
+does s o = effect slots (decodeControl s) o (reading (slotByte (pixelsIn s)) o) .move
+
 -- an operation that does nothing to memory leaves it, done or refused
 untouched : (s memory : List ℕ) (x : Call) (o : Operation) (unused : List ℕ) → row x ≡ (o, unused)
-    → memory-after (decodeControl s) (drop 92 s) memory o ≡ memory → memory ≡ ownMemory s memory x
-unfolding ownMemory
+    → memoryAfter (decodeControl s) (pixelsIn s) memory (does s o) ≡ memory → memory ≡ ownMemory s memory x
+unfolding ownMemory readIn
 untouched s memory x o unused r e = go (ownNumber s x)
   where
     is : operation x ≡ o
     is = unfold operation in ap (λ (p : Operation × List ℕ). p .0) r
 
-    go : (k : ℕ) → memory ≡ whenDone k (memory-after (decodeControl s) (drop 92 s) memory (operation x)) memory
+    go : (k : ℕ) → memory ≡ whenDone k (memoryAfter (decodeControl s) (pixelsIn s) memory (does s (operation x))) memory
     go zero = sym (rw is e)
     go (suc k) = refl
 
 module _ {s memory : List ℕ} (ready : Ready s memory) (x : Call) where
-  pub unknown : (leb 1 (x .op) && leb (x .op) 15) ≡ false → Comes s memory x (Refused UnknownOperation) s memory
+  pub unknown : isOperation (x .op) ≡ false → Comes s memory x (Refused UnknownOperation) s memory
   unfolding refusalOf
   unknown e = refusal s memory x (ready .bytes) (ready .well) {k = 2}
       (unfold number first in rw (well-control s (ready .well), eq-eqb _ _ (ready .sized), e))
 
   number-own : 1 ≤ x .op → x .op ≤ 15 → number slots (decodeControl s) (length memory) x ≡ ownNumber s x
-  unfolding number first ownNumber
+  unfolding number first ownNumber isOperation
   number-own l h = rw (well-control s (ready .well), eq-eqb _ _ (ready .sized), le-leb 1 (x .op) l, le-leb (x .op) 15 h)
 
   done : number slots (decodeControl s) (length memory) x ≡ 0 → ownNumber s x ≡ 0
@@ -92,6 +96,6 @@ module _ {s memory : List ℕ} (ready : Ready s memory) (x : Call) where
 
   -- the same, of an operation that does nothing to memory
   pub beside-memory : {a : Answer} {s' : List ℕ} {o : Operation} {unused : List ℕ} → row x ≡ (o, unused)
-      → memory-after (decodeControl s) (drop 92 s) memory o ≡ memory → 1 ≤ x .op → x .op ≤ 15
+      → memoryAfter (decodeControl s) (pixelsIn s) memory (does s o) ≡ memory → 1 ≤ x .op → x .op ≤ 15
       → a ≡ ownAnswer s x → s' ≡ ownBlock s memory x → Comes s memory x a s' memory
   beside-memory r e l h answers blocks = by-its-line l h answers blocks (untouched s memory x _ _ r e)

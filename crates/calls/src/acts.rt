@@ -7,6 +7,7 @@ use buffer::writes;
 use chip::Answer;
 use chip::Call;
 use chip::Refusal;
+use layout::memory::FOUR_PAGES_BYTES;
 use paging::blocks;
 use paging::pages;
 ghost use mathlib.Core.Path.{_≡_};
@@ -14,12 +15,12 @@ ghost use mathlib.Core.Bool.{true};
 ghost use Prim.Native.Nat.{_≤_};
 ghost use lib.ListN.{length};
 ghost use Rattle.layout.specs.Memory.{size};
-ghost use Rattle.block.specs.Block.{decodeControl, wellFormedBlock};
+ghost use Rattle.block.specs.Block.{IsBlock, decodeControl, wellFormedBlock};
 ghost use Rattle.block.specs.OnBlock.{blockAnswer, blockAfter, blockMemory};
 
 // Each operation but the stateful writes, and the refusal of a number that no operation has.
 fn other(s: &mut [u8], memory: &mut [u8], x: Call) -> Answer
-    requires { ⌜ (length (now s) ≡ 348) × (wellFormedBlock (now s) ≡ true) × (length (now memory) ≡ size (decodeControl (now s) .pages)) × (10 ≤ x .op → 12 ≤ x .op) ⌝ }
+    requires { ⌜ IsBlock (now s) × (wellFormedBlock (now s) ≡ true) × (length (now memory) ≡ size (decodeControl (now s) .pages)) × (10 ≤ x .op → 12 ≤ x .op) ⌝ }
     ensures { λ r. ⌜ (r ≡ blockAnswer (now (s .entry)) (now (memory .entry)) x) × (now (s .exit) ≡ blockAfter (now (s .entry)) (now (memory .entry)) x) × (now (memory .exit) ≡ blockMemory (now (s .entry)) (now (memory .entry)) x) ⌝ }
 {
     let op = x.op;
@@ -40,7 +41,7 @@ fn other(s: &mut [u8], memory: &mut [u8], x: Call) -> Answer
 
 // Stateful writes are most of a drawing, so they are told apart first.
 fn operate(s: &mut [u8], memory: &mut [u8], x: Call) -> Answer
-    requires { ⌜ (length (now s) ≡ 348) × (wellFormedBlock (now s) ≡ true) × (length (now memory) ≡ size (decodeControl (now s) .pages)) ⌝ }
+    requires { ⌜ IsBlock (now s) × (wellFormedBlock (now s) ≡ true) × (length (now memory) ≡ size (decodeControl (now s) .pages)) ⌝ }
     ensures { λ r. ⌜ (r ≡ blockAnswer (now (s .entry)) (now (memory .entry)) x) × (now (s .exit) ≡ blockAfter (now (s .entry)) (now (memory .entry)) x) × (now (memory .exit) ≡ blockMemory (now (s .entry)) (now (memory .entry)) x) ⌝ }
 {
     let op = x.op;
@@ -56,7 +57,7 @@ pub fn act(s: &mut [u8], memory: &mut [u8], x: Call) -> Answer
     if !form::well_formed(s) {
         return Answer::Refused(Refusal::IllFormed);
     }
-    if memory.len() != 5120 * (fields::pages(s) as usize) {
+    if memory.len() != FOUR_PAGES_BYTES * (fields::pages(s) as usize) {
         return Answer::Refused(Refusal::MemoryLength);
     }
     operate(s, memory, x)

@@ -1,5 +1,6 @@
 // A call on a chip by value: stored, acted on and read back. The round trip of the stored state makes this the same call.
 use super::acts;
+use block::places;
 use chip::Answered;
 use chip::Call;
 use chip::Chip;
@@ -9,7 +10,7 @@ ghost use Rattle.chip.specs.Calls.{answeredOf, memoryOf};
 pub fn perform(chip: Chip, memory: &mut [u8], x: Call) -> Answered
     ensures { λ r. ⌜ (r ≡ answeredOf chip (now (memory .entry)) x) × (now (memory .exit) ≡ memoryOf chip (now (memory .entry)) x) ⌝ }
 {
-    let mut s = [0u8; 348];
+    let mut s = [0u8; places::BLOCK_BYTES];
     stored::store(&mut s, chip);
     let answer = acts::act(&mut s, memory, x);
     Answered {

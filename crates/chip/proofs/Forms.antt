@@ -1,4 +1,5 @@
--- What the tests of a well formed state come to, as code makes them. Assumes nothing.
+-- What the tests of a well formed state come to, as code makes them: an open page by cases at 65535, registers by leaving out the four that hold any
+-- bits. Assumes nothing.
 use mathlib.Core.Path.{_≡_, refl, sym, ap, _∙_}
 use mathlib.Core.Bool.{true, _&&_, _||_, or-true, or-false}
 use mathlib.Core.List.{List}

@@ -1,20 +1,23 @@
--- The number that a call answers is the first that applies. Assumes nothing.
+-- The number that a call answers is the first that applies: it is below 8, and each refusal has its own number back. Assumes nothing.
 use mathlib.Core.Path.{_≡_, refl}
 use mathlib.Core.Logic.{_≢_}
 use mathlib.Core.Bool.{Bool, true, false, cond}
 use mathlib.Core.List.{List, [], _∷_}
-use Prim.Native.Nat.{ℕ, zero, suc, _<_, _≤_}
+use Prim.Native.Nat.{ℕ, zero, suc, _+_, _-_, _<_, _≤_}
 use native.Mathlib.Omega.{arith}
-use lib.Dec.{lit<}
+use lib.Dec.{eqb, lit<}
 use lib.ListN.{length}
+use borrow.Author.Tests.{eqb-true}
+use Rattle.bits.specs.Bits.{every}
+use Rattle.bits.proofs.Bytes.{every-at}
 use Rattle.numbers.specs.Numbers.{first}
 use Rattle.chip.specs.declared.Call.{Call}
 use Rattle.chip.specs.declared.Chip.{Chip}
 use Rattle.chip.specs.declared.Control.{Control}
 use Rattle.chip.specs.Operations.{Operation, access, precharge, duplicate, readBlock, writeBlock, dataRead, dataWrite, writeTag, writeRegister, readRegister, unknown, operation}
-use Rattle.chip.specs.Answers.{refusalNumber, refusalOf, numberOf, answer}
-use Rattle.chip.specs.Refusals.{number, callTests, operandsFit}
-use Rattle.chip.specs.Calls.{readIn, answeredWith, memoryWith}
+use Rattle.chip.specs.Answers.{refusalNumber, refusalOf, numberOf}
+use Rattle.chip.specs.Refusals.{asks, callTests, number}
+use Rattle.chip.specs.Calls.{answeredWith, memoryWith}
 
 -- each number of a list of tests is below m
 abbrev Below : ℕ → List (ℕ × Bool) → Type 0
@@ -31,37 +34,31 @@ first-lt m (x ∷ xs) h b = go (x .1) (first-lt m xs h (b .1))
     go false q = q
 
 -- a call's number is 0 to 7
+asks-lt : (c : Control) (o : Operation) → Below 8 (asks c o)
+unfolding asks
+asks-lt c (access b p) = (lit< tt, tt)
+asks-lt c (precharge b) = tt
+asks-lt c (duplicate b p) = (lit< tt, tt)
+asks-lt c (readBlock b k s) = (lit< tt, tt)
+asks-lt c (writeBlock m b k s) = (lit< tt, tt)
+asks-lt c (dataRead s w) = tt
+asks-lt c (dataWrite w) = tt
+asks-lt c (writeTag m s x) = tt
+asks-lt c (writeRegister r v) = (lit< tt, tt)
+asks-lt c (readRegister r) = tt
+asks-lt c unknown = tt
+
 pub number-lt : (n : ℕ) (c : Control) (len : ℕ) (x : Call) → number n c len x < 8
-unfolding number callTests operandsFit
-number-lt n c len x = first-lt 8 _ (lit< tt) (lit< tt, (lit< tt, (lit< tt, (lit< tt, (lit< tt, (lit< tt, (lit< tt, tt)))))))
+unfolding number callTests
+number-lt n c len x = first-lt 8 _ (lit< tt) (lit< tt, (lit< tt, (lit< tt, (lit< tt, asks-lt c (operation x)))))
 
 -- the refusal of a number has that number
 pub refusal-back : (k : ℕ) → 1 ≤ k → k < 9 → refusalNumber (refusalOf k) ≡ k
-unfolding refusalOf
-refusal-back zero l h = absurd (omega arith)
-refusal-back (suc zero) l h = refl
-refusal-back (suc (suc zero)) l h = refl
-refusal-back (suc (suc (suc zero))) l h = refl
-refusal-back (suc (suc (suc (suc zero)))) l h = refl
-refusal-back (suc (suc (suc (suc (suc zero))))) l h = refl
-refusal-back (suc (suc (suc (suc (suc (suc zero)))))) l h = refl
-refusal-back (suc (suc (suc (suc (suc (suc (suc zero))))))) l h = refl
-refusal-back (suc (suc (suc (suc (suc (suc (suc (suc zero)))))))) l h = refl
-refusal-back (suc (suc (suc (suc (suc (suc (suc (suc (suc k))))))))) l h = absurd (omega arith)
-
-answer-done : (c : Control) (o : Operation) (old : ℕ) → numberOf (answer c o old) ≡ 0
-unfolding answer
-answer-done c (access b p) old = refl
-answer-done c (precharge b) old = refl
-answer-done c (duplicate b p) old = refl
-answer-done c (readBlock b k s) old = refl
-answer-done c (writeBlock m b k s) old = refl
-answer-done c (dataRead s w) old = refl
-answer-done c (dataWrite w) old = refl
-answer-done c (writeTag m s x) old = refl
-answer-done c (writeRegister r v) old = refl
-answer-done c (readRegister r) old = refl
-answer-done c unknown old = refl
+unfolding refusalOf every
+refusal-back k l h =
+    let back : k - 1 + 1 ≡ k = omega arith in
+    let test : ℕ → Bool = λ i. eqb (refusalNumber (refusalOf (i + 1))) (i + 1) in
+    rw back at (eqb-true (refusalNumber (refusalOf (k - 1 + 1))) (k - 1 + 1) (every-at 8 test refl (k - 1) (omega arith)))
 
 -- 01, Numbers: numbers are given exactly when stated
 pub numbers-given : (n : ℕ) (chip : Chip) (memory : List ℕ) (x : Call)
@@ -71,7 +68,7 @@ numbers-given n chip memory x = go (number n (chip .control) (length memory) x) 
   where
     go : (k : ℕ) → number n (chip .control) (length memory) x ≡ k
         → numberOf (answeredWith n chip memory x .answer) ≡ number n (chip .control) (length memory) x
-    go zero e = rw e (answer-done (chip .control) (operation x) (readIn (chip .pixels) x))
+    go zero e = rw e
     go (suc k) e = rw e (refusal-back (suc k) (omega arith) (omega (arith, e, number-lt n (chip .control) (length memory) x)))
 
 -- 01, Numbers: a refusal changes nothing, the counter included

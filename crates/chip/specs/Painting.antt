@@ -8,7 +8,7 @@ use Rattle.pixel.specs.declared.Write.{Write}
 use Rattle.pixel.specs.Writes.{intoWord, taken, newByte}
 use Rattle.lists.specs.Update.{update}
 
--- the destination's four bytes, where byte i of the destination slot lies at `home i`
+-- 01, Data write: the destination's four bytes, where byte i of the destination slot lies at `home i`
 unfoldable pub painted : List ℕ → Write → ℕ → (ℕ → ℕ) → List ℕ → List ℕ
 painted registers w old home l = update 4 (λ n. home (4 * intoWord registers w + n)) (newByte registers w old) l
 

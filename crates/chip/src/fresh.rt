@@ -1,6 +1,7 @@
 // A fresh chip, and a chip made fresh. The definitions are specs/State.antt and specs/Calls.antt.
 use super::Answer;
 use super::Answered;
+use super::CLOSED;
 use super::Chip;
 use super::Control;
 use super::Refusal;
@@ -15,7 +16,7 @@ pub fn fresh(pages: u16) -> Chip
     Chip {
         control: Control {
             pages: pages,
-            banks: [65535; 4],
+            banks: [CLOSED; 4],
             registers: [0xffff_ffff, 0, 0, 0, 0x0303_0303, 0, 0],
             picking: false,
             hit: false,

@@ -8,6 +8,9 @@ pub const LINE_BYTES: usize = 80;
 
 pub const PAGE_BYTES: usize = 1280;
 
+// One page of each of the four banks.
+pub const FOUR_PAGES_BYTES: usize = 4 * PAGE_BYTES;
+
 // Whether a bank may have so many pages.
 pub fn pages_fit(pages: u32) -> bool
     ensures { λ r. ⌜ r ≡ pagesFit pages ⌝ }

@@ -1,5 +1,5 @@
 pub mod Updates
 pub mod Words
-pub mod Alike
-pub mod Runs
+pub mod Seams
+pub mod Rows
 pub mod Stores

@@ -1,13 +1,13 @@
 -- The laws of a number of 16 or of 32 bits in a list of bytes: its bytes, what is put and then read, and a loop that puts words. Assumes nothing.
 use mathlib.Core.Path.{_≡_, sym, ap, _∙_}
-use mathlib.Core.List.{List}
-use Prim.Native.Nat.{ℕ, _+_, _*_, _/_, _%_, _^_, _<_, _≤_}
+use mathlib.Core.List.{List, [], _∷_}
+use Prim.Native.Nat.{ℕ, zero, suc, _+_, _*_, _/_, _%_, _^_, _<_, _≤_}
 use native.Mathlib.Nat.{add-zero, zero-add, add-assoc, mul-add, div-one, mod-eq-of-lt}
 use native.Mathlib.Omega.{arith}
 use lib.Dec.{lit<}
-use lib.ListN.{length, getD, set, drop}
+use lib.ListN.{length, getD, set, take, drop}
 use lib.Pow.{shr-lt}
-use lib.Seq.{getD-drop}
+use lib.Seq.{getD-take, getD-drop}
 use Rattle.bits.specs.Bits.{byte, wordIn}
 use Rattle.bits.proofs.Bytes.{join-bytes, joined-lt, byte-word-in}
 use Rattle.bits.proofs.Laws.{byte-lt}
@@ -45,10 +45,23 @@ module _ (s : List ℕ) (p : ℕ) (bytes : (a : ℕ) → getD s a 0 < 2 ^ 8) whe
   unfolding wordAt wordIn
   byte-word-at n h = rw (add-zero p, zero-add n) at (byte-word-in (λ i. getD s (p + i) 0) 0 n (λ i. bytes (p + i)) h)
 
+-- a part's bytes are bytes
+front-bytes : (n : ℕ) (l : List ℕ) → ((a : ℕ) → getD l a 0 < 2 ^ 8) → (a : ℕ) → getD (take n l) a 0 < 2 ^ 8
+front-bytes zero l bytes a = lit< tt
+front-bytes (suc n) [] bytes a = lit< tt
+front-bytes (suc n) (x ∷ l) bytes zero = bytes 0
+front-bytes (suc n) (x ∷ l) bytes (suc a) = front-bytes n l (λ b. bytes (suc b)) a
+
+pub part-bytes : (k n : ℕ) (s : List ℕ) → ((a : ℕ) → getD s a 0 < 2 ^ 8) → (a : ℕ) → getD (take n (drop k s)) a 0 < 2 ^ 8
+part-bytes k n s bytes = front-bytes n (drop k s) (λ a. rw (getD-drop k s a 0) (bytes (k + a)))
+
 -- a part's word is the whole's
-pub word-drop : (k q : ℕ) (s : List ℕ) → wordAt (drop k s) q ≡ wordAt s (k + q)
+pub word-part : (k n q : ℕ) (s : List ℕ) → q + 3 < n → wordAt (take n (drop k s)) q ≡ wordAt s (k + q)
 unfolding wordAt
-word-drop k q s = simp (getD-drop, add-assoc)
+word-part k n q s h = rw (in-part q (omega arith), in-part (q + 1) (omega arith), in-part (q + 2) (omega arith), in-part (q + 3) (omega arith)) (simp (getD-drop, add-assoc))
+  where
+    in-part : (i : ℕ) → i < n → getD (take n (drop k s)) i 0 ≡ getD (drop k s) i 0
+    in-part i l = getD-take n (drop k s) i 0 l
 
 -- ---- what is put is read
 

@@ -1,9 +1,11 @@
--- Numbers of 16 and of 32 bits in a list of bytes, little endian: read at a place, and put there. Assumes nothing.
-use mathlib.Core.List.{List, [], _∷_}
+-- Numbers in a list of bytes, little endian: read at a place, put there, and one behind the other. Assumes nothing.
+use mathlib.Core.List.{List, [], _∷_, _++_}
 use Prim.Native.Nat.{ℕ, zero, suc, _+_, _*_, _^_}
 use lib.ListN.{getD}
 use Rattle.bits.specs.Bits.{byte, joined}
 use Rattle.lists.specs.Update.{update}
+
+-- ---- one number
 
 -- 01, Chip state: stored little endian: the number of 16 bits at place p
 unfoldable pub halfAt : List ℕ → ℕ → ℕ
@@ -21,24 +23,32 @@ wordAt s p = joined (getD s p 0) (getD s (p + 1) 0) (getD s (p + 2) 0) (getD s (
 unfoldable pub putWord : ℕ → ℕ → List ℕ → List ℕ
 putWord p x s = update 4 (λ n. p + n) (λ n was. byte x n) s
 
--- ---- numbers one behind the other
+-- ---- numbers of w bytes each, one behind the other
 
--- numbers of 16 bits, in two bytes each
-unfoldable pub halves : List ℕ → List ℕ
-halves [] = []
-halves (x ∷ xs) = byte x 0 ∷ byte x 1 ∷ halves xs
+-- w bytes of a number, from its byte n up
+unfoldable pub bytesFrom : ℕ → ℕ → ℕ → List ℕ
+bytesFrom zero n x = []
+bytesFrom (suc w) n x = byte x n ∷ bytesFrom w (suc n) x
 
--- numbers of 32 bits, in four bytes each
-unfoldable pub words : List ℕ → List ℕ
-words [] = []
-words (x ∷ xs) = byte x 0 ∷ byte x 1 ∷ byte x 2 ∷ byte x 3 ∷ words xs
+unfoldable pub row : ℕ → List ℕ → List ℕ
+row w [] = []
+row w (x ∷ xs) = bytesFrom w 0 x ++ row w xs
 
--- n numbers of 16 bits from place p on
-unfoldable pub halvesAt : ℕ → List ℕ → ℕ → List ℕ
-halvesAt zero s p = []
-halvesAt (suc n) s p = halfAt s p ∷ halvesAt n s (p + 2)
+-- n of them, from place p on, where one is read so
+unfoldable pub rowAt : ℕ → (List ℕ → ℕ → ℕ) → ℕ → List ℕ → ℕ → List ℕ
+rowAt w reads zero s p = []
+rowAt w reads (suc n) s p = reads s p ∷ rowAt w reads n s (p + w)
 
--- n numbers of 32 bits from place p on
-unfoldable pub wordsAt : ℕ → List ℕ → ℕ → List ℕ
-wordsAt zero s p = []
-wordsAt (suc n) s p = wordAt s p ∷ wordsAt n s (p + 4)
+-- of 16 bits
+abbrev pub halves : List ℕ → List ℕ
+halves xs = row 2 xs
+
+abbrev pub halvesAt : ℕ → List ℕ → ℕ → List ℕ
+halvesAt n s p = rowAt 2 halfAt n s p
+
+-- of 32 bits
+abbrev pub words : List ℕ → List ℕ
+words xs = row 4 xs
+
+abbrev pub wordsAt : ℕ → List ℕ → ℕ → List ℕ
+wordsAt n s p = rowAt 4 wordAt n s p

@@ -3,53 +3,57 @@ use mathlib.Core.Path.{_≡_, ap}
 use mathlib.Core.Bool.{true, false, not, _&&_}
 use mathlib.Core.List.{List, [], _∷_}
 use Prim.Native.Nat.{ℕ, suc}
-use lib.ListN.{drop}
+use lib.Dec.{eqb}
 use Rattle.numbers.specs.Numbers.{first}
 use Rattle.chip.specs.declared.Call.{Call}
 use Rattle.chip.specs.declared.Control.{Control}
 use Rattle.chip.specs.declared.Answer.the-variants.{Refused}
-use Rattle.chip.specs.State.{slots}
+use Rattle.chip.specs.State.{slots, closed, openPage, isClosed}
 use Rattle.chip.specs.Operations.{Operation, row, operation, allZero, inRange}
-use Rattle.chip.specs.Steps.{counted, control-after, pixels-after, memory-after, oldWord, slotByte}
-use Rattle.chip.specs.Answers.{answer, refusalOf}
-use Rattle.chip.specs.Refusals.{badBits, onOpen, onClosed, operandsFit, callTests}
+use Rattle.chip.specs.Changes.{ticked}
+use Rattle.chip.specs.Effects.{Effect, reading, slotByte, effect, pixelsAfter, memoryAfter}
+use Rattle.chip.specs.Answers.{doneAnswer, refusalOf}
+use Rattle.chip.specs.Refusals.{asks, operandsFit, callTests}
 use Rattle.chip.specs.Calls.{readIn}
-use Rattle.block.specs.Block.{encode, decodeControl}
+use Rattle.block.specs.Block.{encode, decodeControl, pixelsIn}
 use Rattle.own.specs.Own.{ownNumber, ownAnswer, ownBlock, ownMemory}
 
--- the four tests, of an operation and the operands that its line does not list
+-- the tests, of an operation and the operands that its line does not list
 unfoldable pub tests : Control → Operation → List ℕ → ℕ
-tests c o unused = first
-    ((4, not (inRange slots (c .pages) o && allZero unused))
-    ∷ (5, badBits o)
-    ∷ (6, onOpen (c .banks) o)
-    ∷ (7, onClosed (c .banks) o)
-    ∷ [])
+tests c o unused = first ((4, not (inRange slots (c .pages) o && allZero unused)) ∷ asks c o)
 
--- the first of them that applies
+-- the first of them that applies: the operands', or what the operation asks
 module _ (c : Control) (o : Operation) (unused : List ℕ) where
   pub outside : (inRange slots (c .pages) o && allZero unused) ≡ false → tests c o unused ≡ 4
   unfolding tests first
   outside e = rw e
 
-  module _ (fits : (inRange slots (c .pages) o && allZero unused) ≡ true) where
-    pub not-allowed : badBits o ≡ true → tests c o unused ≡ 5
-    unfolding tests first
-    not-allowed e = rw (fits, e)
+  pub by-asks : (inRange slots (c .pages) o && allZero unused) ≡ true → {k : ℕ} → first (asks c o) ≡ k → tests c o unused ≡ k
+  unfolding tests first
+  by-asks fits e = rw fits e
 
-    pub on-open : badBits o ≡ false → onOpen (c .banks) o ≡ true → tests c o unused ≡ 6
-    unfolding tests first
-    on-open e f = rw (fits, e, f)
+-- what ops 1 and 3 to 6 ask of their bank: 6 where it is open, 7 where it is closed
+pub access-open : (c : Control) (bank : ℕ) → eqb (openPage (c .banks) bank) 65535 ≡ false → first ((6, not (isClosed (c .banks) bank)) ∷ []) ≡ 6
+unfolding first isClosed closed
+access-open c bank e = rw e
 
-    pub on-closed : badBits o ≡ false → onOpen (c .banks) o ≡ false → onClosed (c .banks) o ≡ true → tests c o unused ≡ 7
-    unfolding tests first
-    on-closed e f g = rw (fits, e, f, g)
+pub access-shut : (c : Control) (bank : ℕ) → eqb (openPage (c .banks) bank) 65535 ≡ true → first ((6, not (isClosed (c .banks) bank)) ∷ []) ≡ 0
+unfolding first isClosed closed
+access-shut c bank e = rw e
 
-    pub none-applies : badBits o ≡ false → onOpen (c .banks) o ≡ false → onClosed (c .banks) o ≡ false → tests c o unused ≡ 0
-    unfolding tests first
-    none-applies e f g = rw (fits, e, f, g)
+pub bank-shut : (c : Control) (bank : ℕ) → eqb (openPage (c .banks) bank) 65535 ≡ true → first ((7, isClosed (c .banks) bank) ∷ []) ≡ 7
+unfolding first isClosed closed
+bank-shut c bank e = rw e
+
+pub bank-open : (c : Control) (bank : ℕ) → eqb (openPage (c .banks) bank) 65535 ≡ false → first ((7, isClosed (c .banks) bank) ∷ []) ≡ 0
+unfolding first isClosed closed
+bank-open c bank e = rw e
 
 module _ (s : List ℕ) (x : Call) (o : Operation) (unused : List ℕ) (r : row x ≡ (o, unused)) where
+  -- what the operation does, if it is done
+  abbrev pub does : Effect
+  does = effect slots (decodeControl s) o (reading (slotByte (pixelsIn s)) o)
+
   operation-is : operation x ≡ o
   unfolding operation
   operation-is = ap (λ (p : Operation × List ℕ). p .0) r
@@ -66,17 +70,17 @@ module _ (s : List ℕ) (x : Call) (o : Operation) (unused : List ℕ) (r : row 
 
   -- done: what its operation does
   module _ (e : tests (decodeControl s) o unused ≡ 0) where
-    pub done-answer : answer (decodeControl s) o (oldWord (slotByte (drop 92 s)) o) ≡ ownAnswer s x
+    pub done-answer : doneAnswer does ≡ ownAnswer s x
     unfolding ownAnswer readIn
     done-answer = rw (own-number, e, operation-is)
 
     pub done-block : (memory : List ℕ) → encode (record {
-      control = counted (control-after slots (decodeControl s) o (oldWord (slotByte (drop 92 s)) o));
-      pixels = pixels-after slots (decodeControl s) (drop 92 s) memory o (oldWord (slotByte (drop 92 s)) o);
+      control = ticked (does .control);
+      pixels = pixelsAfter (decodeControl s) (pixelsIn s) memory (does .move);
     }) ≡ ownBlock s memory x
     unfolding ownBlock readIn
     done-block memory = rw (own-number, e, operation-is)
 
-    pub done-memory : (memory : List ℕ) → memory-after (decodeControl s) (drop 92 s) memory o ≡ ownMemory s memory x
-    unfolding ownMemory
+    pub done-memory : (memory : List ℕ) → memoryAfter (decodeControl s) (pixelsIn s) memory (does .move) ≡ ownMemory s memory x
+    unfolding ownMemory readIn
     done-memory memory = rw (own-number, e, operation-is)

@@ -1,46 +1,47 @@
 -- A call on a well formed block and a memory of its size, for an operation that is known: what its own line of document 01's tables says of it.
--- (What comes before, 01's numbers 1 to 3, is in `blockAnswer` and its like: crate stored, Doors.) Assumes nothing.
+-- (What comes before, 01's numbers 1 to 3, is in `blockAnswer` and its like: crate block, OnBlock.) Assumes nothing.
 use mathlib.Core.Bool.{Bool, cond, not, _&&_}
 use mathlib.Core.List.{List}
 use Prim.Native.Nat.{ℕ, _+_, _*_, _%_, _^_}
 use lib.Bits.{bitOr}
-use lib.ListN.{drop}
+use Rattle.numbers.specs.Numbers.{first, whenDone}
+use Rattle.lists.specs.Words.{putWord}
 use Rattle.pixel.specs.declared.Write.{Write}
 use Rattle.pixel.specs.declared.Outcome.{Outcome}
-use Rattle.numbers.specs.Numbers.{first, whenDone}
-use Rattle.lists.specs.Words.{wordAt, putWord}
 use Rattle.bank.specs.Work.{inSlot}
 use Rattle.chip.specs.declared.Call.{Call}
 use Rattle.chip.specs.declared.Answer.{Answer}
 use Rattle.chip.specs.declared.Answer.the-variants.{Refused}
 use Rattle.chip.specs.State.{slots}
-use Rattle.chip.specs.Operations.{operation}
-use Rattle.chip.specs.Steps.{counted, tagOf, control-after, pixels-after, memory-after}
-use Rattle.chip.specs.Answers.{answer, refusalOf}
+use Rattle.chip.specs.Changes.{ticked, tagOf}
+use Rattle.chip.specs.Effects.{Effect, pixelsAfter, memoryAfter}
+use Rattle.chip.specs.Answers.{doneAnswer, refusalOf}
 use Rattle.chip.specs.Refusals.{callTests}
-use Rattle.chip.specs.Calls.{readIn}
-use Rattle.block.specs.Block.{flagsAt, counterAt, tagAt, pixelsAt, encode, decodeControl}
+use Rattle.chip.specs.Calls.{effectIn}
+use Rattle.block.specs.Block.{flagsAt, pixelsAt, encode, decodeControl, pixelsIn, putTag, tickedIn}
 
 -- its number: 4 to 7, or 0
 unfoldable pub ownNumber : List ℕ → Call → ℕ
 ownNumber s x = first (callTests slots (decodeControl s) x)
 
+-- what it does, if it is done
+abbrev pub ownEffect : List ℕ → Call → Effect
+ownEffect s x = effectIn slots (decodeControl s) (pixelsIn s) x
+
 unfoldable pub ownAnswer : List ℕ → Call → Answer
-ownAnswer s x = whenDone (ownNumber s x)
-    (answer (decodeControl s) (operation x) (readIn (drop pixelsAt s) x))
-    (Refused (refusalOf (ownNumber s x)))
+ownAnswer s x = whenDone (ownNumber s x) (doneAnswer (ownEffect s x)) (Refused (refusalOf (ownNumber s x)))
 
 -- the block after it, and the memory
 unfoldable pub ownBlock : List ℕ → List ℕ → Call → List ℕ
 ownBlock s memory x = whenDone (ownNumber s x)
     (encode (record {
-      control = counted (control-after slots (decodeControl s) (operation x) (readIn (drop pixelsAt s) x));
-      pixels = pixels-after slots (decodeControl s) (drop pixelsAt s) memory (operation x) (readIn (drop pixelsAt s) x);
+      control = ticked (ownEffect s x .control);
+      pixels = pixelsAfter (decodeControl s) (pixelsIn s) memory (ownEffect s x .move);
     }))
     s
 
 unfoldable pub ownMemory : List ℕ → List ℕ → Call → List ℕ
-ownMemory s memory x = whenDone (ownNumber s x) (memory-after (decodeControl s) (drop pixelsAt s) memory (operation x)) memory
+ownMemory s memory x = whenDone (ownNumber s x) (memoryAfter (decodeControl s) (pixelsIn s) memory (ownEffect s x .move)) memory
 
 -- ---- a data write's outcome, put into the block
 
@@ -52,5 +53,4 @@ hitMarked hits s = cond (decodeControl s .picking && hits) (putWord flagsAt 3 s)
 unfoldable pub settled : Write → ℕ → ℕ → Outcome → List ℕ → List ℕ
 settled w slot at o s =
     let tag = bitOr (cond (w .initial) 0 (tagOf (decodeControl s) slot)) (o .taken * 2 ^ (4 * at) % 2 ^ 32) in
-    let marked = hitMarked (not (w .stateless) && o .written) (putWord (tagAt slot) tag (putWord (pixelsAt + inSlot slot (4 * at)) (o .word) s)) in
-    putWord counterAt ((wordAt marked counterAt + 1) % 2 ^ 32) marked
+    tickedIn (hitMarked (not (w .stateless) && o .written) (putTag slot tag (putWord (pixelsAt + inSlot slot (4 * at)) (o .word) s)))

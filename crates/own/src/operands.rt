@@ -4,9 +4,8 @@ ghost use mathlib.Core.Path.{_≡_};
 ghost use mathlib.Core.Bool.{_&&_};
 ghost use mathlib.Core.List.{[], _∷_};
 ghost use lib.Dec.{leb, ltb};
-ghost use lib.ListN.{length};
 ghost use Rattle.chip.specs.Operations.{allZero};
-ghost use Rattle.block.specs.Block.{decodeControl};
+ghost use Rattle.block.specs.Block.{IsBlock, decodeControl};
 
 fn two_zero(a: u32, b: u32) -> bool
     ensures { λ r. ⌜ r ≡ allZero (a ∷ b ∷ []) ⌝ }
@@ -28,7 +27,7 @@ fn four_zero(a: u32, b: u32, c: u32, d: u32) -> bool
 
 // 1 and 3: bank, page.
 pub fn page_fits(s: &[u8], x: Call) -> bool
-    requires { ⌜ length (now s) ≡ 348 ⌝ }
+    requires { ⌜ IsBlock (now s) ⌝ }
     ensures { λ r. ⌜ r ≡ (ltb (x .a) 4 && ltb (x .b) (decodeControl (now (s .entry)) .pages) && allZero (x .c ∷ x .d ∷ x .given ∷ [])) ⌝ }
 {
     let pages = block::fields::pages(s);

@@ -1,6 +1,7 @@
 // Access, precharge and duplicate page.
 use block::fields;
 use chip::Answer;
+use chip::CLOSED;
 use chip::Call;
 use chip::Refusal;
 use own::done;
@@ -11,18 +12,18 @@ ghost use mathlib.Core.List.{List};
 ghost use Prim.Native.Nat.{ℕ};
 ghost use lib.ListN.{length};
 ghost use Rattle.layout.specs.Memory.{size};
-ghost use Rattle.block.specs.Block.{decodeControl, wellFormedBlock};
+ghost use Rattle.block.specs.Block.{IsBlock, decodeControl, wellFormedBlock};
 ghost use Rattle.own.specs.Own.{ownAnswer, ownBlock, ownMemory};
 
 // Opens a closed bank at a page.
 pub fn access(s: &mut [u8], x: Call) -> Answer
-    requires { ⌜ (length (now s) ≡ 348) × (wellFormedBlock (now s) ≡ true) × (x .op ≡ 1) ⌝ }
+    requires { ⌜ IsBlock (now s) × (wellFormedBlock (now s) ≡ true) × (x .op ≡ 1) ⌝ }
     ensures { λ r. ⌜ (r ≡ ownAnswer (now (s .entry)) x) × ((memory : List ℕ) → now (s .exit) ≡ ownBlock (now (s .entry)) memory x) ⌝ }
 {
     if !operands::page_fits(s, x) {
         return Answer::Refused(Refusal::OperandOutside);
     }
-    if fields::open_page(s, x.a) != 65535 {
+    if fields::open_page(s, x.a) != CLOSED {
         return Answer::Refused(Refusal::BankOpen);
     }
     fields::put_page(s, x.a, x.b as u16);
@@ -31,26 +32,26 @@ pub fn access(s: &mut [u8], x: Call) -> Answer
 
 // Closes a bank; a closed one stays closed.
 pub fn precharge(s: &mut [u8], x: Call) -> Answer
-    requires { ⌜ (length (now s) ≡ 348) × (wellFormedBlock (now s) ≡ true) × (x .op ≡ 2) ⌝ }
+    requires { ⌜ IsBlock (now s) × (wellFormedBlock (now s) ≡ true) × (x .op ≡ 2) ⌝ }
     ensures { λ r. ⌜ (r ≡ ownAnswer (now (s .entry)) x) × ((memory : List ℕ) → now (s .exit) ≡ ownBlock (now (s .entry)) memory x) ⌝ }
 {
     if !operands::bank_fits(x) {
         return Answer::Refused(Refusal::OperandOutside);
     }
-    fields::put_page(s, x.a, 65535);
+    fields::put_page(s, x.a, CLOSED);
     done(s, 0)
 }
 
 // Copies the open page over the named one, which becomes the open page.
 pub fn duplicate(s: &mut [u8], memory: &mut [u8], x: Call) -> Answer
-    requires { ⌜ (length (now s) ≡ 348) × (wellFormedBlock (now s) ≡ true) × (length (now memory) ≡ size (decodeControl (now s) .pages)) × (x .op ≡ 3) ⌝ }
+    requires { ⌜ IsBlock (now s) × (wellFormedBlock (now s) ≡ true) × (length (now memory) ≡ size (decodeControl (now s) .pages)) × (x .op ≡ 3) ⌝ }
     ensures { λ r. ⌜ (r ≡ ownAnswer (now (s .entry)) x) × (now (s .exit) ≡ ownBlock (now (s .entry)) (now (memory .entry)) x) × (now (memory .exit) ≡ ownMemory (now (s .entry)) (now (memory .entry)) x) ⌝ }
 {
     if !operands::page_fits(s, x) {
         return Answer::Refused(Refusal::OperandOutside);
     }
     let from = fields::open_page(s, x.a);
-    if from == 65535 {
+    if from == CLOSED {
         return Answer::Refused(Refusal::BankClosed);
     }
     let pages = fields::pages(s);

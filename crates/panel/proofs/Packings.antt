@@ -27,7 +27,7 @@ use Rattle.chip.proofs.NumbersGiven as numbers
 use Rattle.chip.proofs.Forms as forms
 use Rattle.block.specs.Block.{decodeControl, decode, wellFormedBlock}
 use Rattle.block.specs.OnBlock.{blockAnswer, blockLineNumber}
-use Rattle.own.proofs.Changes.{well-control}
+use Rattle.own.proofs.WellFormed.{well-control}
 use Rattle.panel.specs.Packs.{numbered, pointPacked, pointGiven, columnPacked}
 
 -- ---- a call

@@ -73,7 +73,7 @@ pub extern "C" fn panel_call(
 pub extern "C" fn panel_fresh(state: &mut [u8], pages: u32) -> u64
     ensures { λ r. ⌜ (r ≡ freshGiven (now (state .entry)) pages) × (now (state .exit) ≡ freshBlock (now (state .entry)) pages) ⌝ }
 {
-    if state.len() != 348 {
+    if state.len() != block::places::BLOCK_BYTES {
         return pack(0, 1);
     }
     if !layout::memory::pages_fit(pages) {

@@ -1,4 +1,5 @@
--- The flat picture's control part is the chip's without its tags: each call does the same to both, and both answer alike. Assumes nothing.
+-- The flat picture's control part is the chip's without its tags: operation by operation each call does the same to both, and both answer alike.
+-- Assumes nothing.
 use mathlib.Core.Path.{_≡_, refl, sym, ap}
 use mathlib.Core.List.{List, []}
 use Prim.Native.Nat.{ℕ, suc}
@@ -8,12 +9,13 @@ use Rattle.chip.specs.declared.Call.{Call}
 use Rattle.chip.specs.declared.Answer.{Answer}
 use Rattle.chip.specs.State.{wellFormed}
 use Rattle.chip.specs.Operations.{Operation, access, precharge, duplicate, readBlock, writeBlock, dataRead, dataWrite, writeTag, writeRegister, readRegister, unknown, operation}
-use Rattle.chip.specs.Steps.{counted, withRegister, control-after, pixels-after, memory-after, oldWord}
-use Rattle.chip.specs.Answers.{answer}
-use Rattle.chip.specs.Refusals.{number, callTests, operandsFit}
-use Rattle.chip.specs.Calls.{readIn}
+use Rattle.chip.specs.Changes.{withRegister, ticked}
+use Rattle.chip.specs.Effects.{Reading, nothingRead, reading, effect, pixelsAfter, memoryAfter}
+use Rattle.chip.specs.Answers.{doneAnswer}
+use Rattle.chip.specs.Refusals.{operandsFit, asks, callTests, number}
+use Rattle.chip.specs.Calls.{readIn, effectIn}
 use Rattle.picture.specs.Book.{Book, note}
-use Rattle.picture.specs.Flat.{pictureByte, picture-after, flatOld, flatStep}
+use Rattle.picture.specs.Flat.{pictureByte, pictureAfter, flatRead, flatStep}
 use Rattle.picture.specs.Drawing.{World, valueSeen, seen, next}
 use Rattle.picture.proofs.Nexts.{worldOf, next-done, next-refused}
 
@@ -30,31 +32,38 @@ shared c = record {
   tags = [];
 }
 
--- no call looks at the tags, but for the count of a write-back: it does the same to what is shared, draws the same, and the same is seen of it
-pub shared-call : (n : ℕ) (c : Control) (g : Book) (l : List ℕ) (o : Operation) (old : ℕ) (c' : Control)
-    → (control-after n (shared c) o old ≡ shared (control-after n c o old))
-    × (picture-after n (shared c) g l o old ≡ picture-after n c g l o old)
-    × (seen o (answer c o old) c' ≡ seen o (answer (shared c) o old) (shared c'))
-unfolding control-after withRegister picture-after seen answer valueSeen
-shared-call n c g l (access b p) old c' = (refl, refl, refl)
-shared-call n c g l (precharge b) old c' = (refl, refl, refl)
-shared-call n c g l (duplicate b p) old c' = (refl, refl, refl)
-shared-call n c g l (readBlock b k s) old c' = (refl, refl, refl)
-shared-call n c g l (writeBlock m b k s) old c' = (refl, refl, refl)
-shared-call n c g l (dataRead s w) old c' = (refl, refl, refl)
-shared-call n c g l (dataWrite w) old c' = (refl, refl, refl)
-shared-call n c g l (writeTag m s x) old c' = (refl, refl, refl)
-shared-call n c g l (writeRegister r v) old c' = (refl, refl, refl)
-shared-call n c g l (readRegister r) old c' = (refl, refl, refl)
-shared-call n c g l unknown old c' = (refl, refl, refl)
+-- no call looks at the tags, but for the count of a write-back: it asks the same, does the same to what is shared, draws the same, and the same is
+-- seen of it. And none changes P
+pub shared-call : (n : ℕ) (c : Control) (o : Operation) (r : Reading)
+    → (asks (shared c) o ≡ asks c o)
+    × (effect n (shared c) o r .control ≡ shared (effect n c o r .control))
+    × ((g : Book) (l : List ℕ) → pictureAfter (shared c) g l (effect n (shared c) o r .move) ≡ pictureAfter c g l (effect n c o r .move))
+    × ((c' : Control) → seen o (doneAnswer (effect n c o r)) c' ≡ seen o (doneAnswer (effect n (shared c) o r)) (shared c'))
+    × (effect n c o r .control .pages ≡ c .pages)
+unfolding asks effect withRegister pictureAfter seen valueSeen
+shared-call n c (access b p) r = (refl, refl, λ g l. refl, λ c'. refl, refl)
+shared-call n c (precharge b) r = (refl, refl, λ g l. refl, λ c'. refl, refl)
+shared-call n c (duplicate b p) r = (refl, refl, λ g l. refl, λ c'. refl, refl)
+shared-call n c (readBlock b k s) r = (refl, refl, λ g l. refl, λ c'. refl, refl)
+shared-call n c (writeBlock m b k s) r = (refl, refl, λ g l. refl, λ c'. refl, refl)
+shared-call n c (dataRead s w) r = (refl, refl, λ g l. refl, λ c'. refl, refl)
+shared-call n c (dataWrite w) r = (refl, refl, λ g l. refl, λ c'. refl, refl)
+shared-call n c (writeTag m s x) r = (refl, refl, λ g l. refl, λ c'. refl, refl)
+shared-call n c (writeRegister a v) r = (refl, refl, λ g l. refl, λ c'. refl, refl)
+shared-call n c (readRegister a) r = (refl, refl, λ g l. refl, λ c'. refl, refl)
+shared-call n c unknown r = (refl, refl, λ g l. refl, λ c'. refl, refl)
 
 pub shared-number : (n : ℕ) (c : Control) (len : ℕ) (x : Call) → number n (shared c) len x ≡ number n c len x
 unfolding number callTests operandsFit wellFormed
-shared-number n c len x = refl
+shared-number n c len x = rw (shared-call n c (operation x) nothingRead .0)
 
-shared-counted : (c : Control) → counted (shared c) ≡ shared (counted c)
-unfolding counted
-shared-counted c = refl
+pub pages-after : (n : ℕ) (c : Control) (o : Operation) (r : Reading) → ticked (effect n c o r .control) .pages ≡ c .pages
+unfolding ticked
+pages-after n c o r = shared-call n c o r .4
+
+shared-ticked : (c : Control) → ticked (shared c) ≡ shared (ticked c)
+unfolding ticked
+shared-ticked c = refl
 
 pub seen-shared : (o : Operation) (a : Answer) (c : Control) → seen o a c ≡ seen o a (shared c)
 unfolding seen
@@ -75,13 +84,13 @@ parts w e =
 -- ---- a call on both, done or refused
 
 module _ (n : ℕ) (c : Control) (p m : List ℕ) (g : Book) (l : List ℕ) (x : Call) where
-  flat-done : (old : ℕ) → number n (shared c) (length l) x ≡ 0 → oldWord (pictureByte (c .pages) g l) (operation x) ≡ old
+  flat-done : (r : Reading) → number n (shared c) (length l) x ≡ 0 → reading (pictureByte (c .pages) g l) (operation x) ≡ r
       → flatStep n g (record { control = shared c; picture = l }) x
-      ≡ record { control = shared (counted (control-after n c (operation x) old)); picture = picture-after n c g l (operation x) old }
-  unfolding flatStep flatOld
-  flat-done old rf q =
-      let same = shared-call n c g l (operation x) old c in
-      rw (rf, q, same .0, same .1, shared-counted (control-after n c (operation x) old))
+      ≡ record { control = shared (ticked (effect n c (operation x) r .control)); picture = pictureAfter c g l (effect n c (operation x) r .move) }
+  unfolding flatStep flatRead
+  flat-done r rf q =
+      let same = shared-call n c (operation x) r in
+      rw (rf, q, same .1, same .2 g l, shared-ticked (effect n c (operation x) r .control))
 
   flat-refused : (k : ℕ) → number n (shared c) (length l) x ≡ suc k
       → flatStep n g (record { control = shared c; picture = l }) x ≡ record { control = shared c; picture = l }
@@ -89,10 +98,10 @@ module _ (n : ℕ) (c : Control) (p m : List ℕ) (g : Book) (l : List ℕ) (x :
   flat-refused k rf = rw rf
 
   pub done-next : number n c (length m) x ≡ 0 → number n (shared c) (length l) x ≡ 0
-      → oldWord (pictureByte (c .pages) g l) (operation x) ≡ readIn p x
+      → reading (pictureByte (c .pages) g l) (operation x) ≡ readIn p x
       → next n (build c p m g l) x
-      ≡ build (counted (control-after n c (operation x) (readIn p x))) (pixels-after n c p m (operation x) (readIn p x))
-      (memory-after c p m (operation x)) (note n c g (operation x) (readIn p x)) (picture-after n c g l (operation x) (readIn p x))
+      ≡ build (ticked (effectIn n c p x .control)) (pixelsAfter c p m (effectIn n c p x .move)) (memoryAfter c p m (effectIn n c p x .move))
+      (note n c g (operation x) (readIn p x)) (pictureAfter c g l (effectIn n c p x .move))
   unfolding build
   done-next r rf q = rw (next-done n c p m g (record { control = shared c; picture = l }) x r, flat-done (readIn p x) rf q)
 

@@ -17,7 +17,7 @@ use Rattle.picture.specs.Book.{at, Book, stands, waiting, Waits}
 use Rattle.picture.specs.Drawing.{start, OnlyWaitingDiffer}
 use Rattle.picture.proofs.Holds.{Free, Holds, stands-lt}
 use Rattle.picture.proofs.Agree.{start-holds, run-holds}
-use Rattle.picture.proofs.Kept.{offBlock, on-block}
+use Rattle.picture.proofs.PremiseTest.{offBlock, on-block}
 
 -- whether a slot stands for the block and has its byte i waiting
 holdsBack : Book → ℕ → ℕ → ℕ → ℕ → ℕ → Bool

@@ -15,7 +15,8 @@ use Rattle.chip.specs.Refusals.{number}
 use Rattle.chip.specs.Calls.{answeredWith, memoryWith, answeredOf, memoryOf}
 use Rattle.block.specs.Block.{encode, decode}
 use Rattle.block.specs.OnBlock.{blockAnswer, blockAfter, blockMemory}
-use Rattle.block.proofs.RoundTrip.{Sized, decode-encode, encoded-well}
+use Rattle.block.proofs.Sized.{Sized}
+use Rattle.block.proofs.RoundTrip.{decode-encode, encoded-well}
 use Rattle.stored.proofs.StaysSized.{stays-sized}
 
 -- x by a test, and where it fails y, which is then x

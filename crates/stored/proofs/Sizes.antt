@@ -8,17 +8,14 @@ use denote.Struct.Declared.{row}
 use borrow.Author.Needs.{needs}
 use Rattle.chip.specs.declared.Chip.{Chip}
 use Rattle.chip.proofs.Chip.{the-type}
-use Rattle.block.proofs.RoundTrip.{Sized}
+use Rattle.block.proofs.Sized.{Sized}
 
 pub sized : (chip : Chip) (vs : List Val) → Is (row the-type) chip vs → Sized chip
 sized chip vs g = record {
   pages-fit = search needs;
-  banks-long = search needs;
-  banks-fit = λ j. let f : Fits w16 (getD (chip .control .banks) j 0) = search needs in f .fits;
-  registers-long = search needs;
-  registers-fit = λ j. let f : Fits w32 (getD (chip .control .registers) j 0) = search needs in f .fits;
+  banks = record { long = search needs; fit = λ j. let f : Fits w16 (getD (chip .control .banks) j 0) = search needs in f .fits };
+  registers = record { long = search needs; fit = λ j. let f : Fits w32 (getD (chip .control .registers) j 0) = search needs in f .fits };
   counter-fits = search needs;
-  tags-long = search needs;
-  tags-fit = λ j. let f : Fits w32 (getD (chip .control .tags) j 0) = search needs in f .fits;
+  tags = record { long = search needs; fit = λ j. let f : Fits w32 (getD (chip .control .tags) j 0) = search needs in f .fits };
   pixels-long = search needs;
 }

@@ -20,23 +20,12 @@ use Rattle.chip.specs.declared.Control.{Control}
 use Rattle.chip.specs.State.{slots, closed}
 use Rattle.chip.specs.Operations.{Operation, access, precharge, duplicate, readBlock, writeBlock, dataRead, dataWrite, writeTag, writeRegister, readRegister, unknown, row, operation, inRange}
 use Rattle.chip.specs.Painting.{painted, marked, tagWith}
-use Rattle.chip.specs.Steps.{withRegister, counted, tagOf, control-after, pixels-after}
+use Rattle.chip.specs.Changes.{withRegister, ticked, tagOf}
+use Rattle.chip.specs.Effects.{Reading, effect, pixelsAfter}
 use Rattle.chip.specs.Refusals.{number}
 use Rattle.chip.specs.Calls.{readIn, answeredWith, answeredOf}
 use Rattle.chip.proofs.Accepted.{accepted, page-range}
-use Rattle.block.proofs.RoundTrip.{Sized}
-
--- n numbers, each below m
-record Listed (n m : ℕ) (l : List ℕ) : Type 0 where
-  long : length l ≡ n
-  fit : (j : ℕ) → getD l j 0 < m
-
-listed-set : {n m : ℕ} {l : List ℕ} → Listed n m l → (p y : ℕ) → y < m → Listed n m (set l p y)
-unfolding update
-listed-set {n} {m} {l} k p y h = record {
-  long = simp length-set (k .long);
-  fit = update-all (λ v. v < m) 1 (λ i. p) (λ i was. y) l (λ i was hi hw. h) (k .fit);
-}
+use Rattle.block.proofs.Sized.{Listed, listed-set, Sized}
 
 -- ---- an operation that is done
 
@@ -54,16 +43,7 @@ Word (writeRegister number value) = value < 2 ^ 32
 Word (readRegister number) = Unit {0}
 Word unknown = Unit {0}
 
-module _ (c : Control) (pixels memory : List ℕ) (old : ℕ) (z : Sized (record { control = c; pixels = pixels })) where
-  banks : Listed 4 (2 ^ 16) (c .banks)
-  banks = record { long = z .banks-long; fit = z .banks-fit }
-
-  registers : Listed 7 (2 ^ 32) (c .registers)
-  registers = record { long = z .registers-long; fit = z .registers-fit }
-
-  tags : Listed 8 (2 ^ 32) (c .tags)
-  tags = record { long = z .tags-long; fit = z .tags-fit }
-
+module _ (c : Control) (pixels memory : List ℕ) (read : Reading) (z : Sized (record { control = c; pixels = pixels })) where
   -- with such arrays, and the counter advanced
   made : {banks' registers' tags' pixels' : List ℕ} {picking hit : Bool}
       → Listed 4 (2 ^ 16) banks' → Listed 7 (2 ^ 32) registers' → Listed 8 (2 ^ 32) tags' → length pixels' ≡ 256
@@ -79,17 +59,7 @@ module _ (c : Control) (pixels memory : List ℕ) (old : ℕ) (z : Sized (record
         };
         pixels = pixels';
       })
-  made b r t p = record {
-    pages-fit = z .pages-fit;
-    banks-long = b .long;
-    banks-fit = b .fit;
-    registers-long = r .long;
-    registers-fit = r .fit;
-    counter-fits = mod-lt (c .counter + 1) (pow-pos 32);
-    tags-long = t .long;
-    tags-fit = t .fit;
-    pixels-long = p;
-  }
+  made b r t p = record { pages-fit = z .pages-fit; banks = b; registers = r; counter-fits = mod-lt (c .counter + 1) (pow-pos 32); tags = t; pixels-long = p }
 
   page-fits : (b p : ℕ) → inRange slots (c .pages) (access b p) ≡ true → p < 2 ^ 16
   unfolding inRange
@@ -98,26 +68,26 @@ module _ (c : Control) (pixels memory : List ℕ) (old : ℕ) (z : Sized (record
   tag-fits : (replace : Bool) (slot tag : ℕ) → tag < 2 ^ 32 → cond replace tag (bitOr (tagOf c slot) tag) < 2 ^ 32
   unfolding tagOf
   tag-fits true slot tag h = h
-  tag-fits false slot tag h = or-lt 32 (getD (c .tags) slot 0) tag (z .tags-fit slot) h
+  tag-fits false slot tag h = or-lt 32 (getD (c .tags) slot 0) tag (z .tags .fit slot) h
 
   register-fits : (six : Bool) (value : ℕ) → value < 2 ^ 32 → cond six (value % 2 ^ 24) value < 2 ^ 32
   register-fits true value h = lt-trans (mod-lt value (pow-pos 24)) (lit< tt)
   register-fits false value h = h
 
   done-sized : (o : Operation) → inRange slots (c .pages) o ≡ true → Word o
-      → Sized (record { control = counted (control-after slots c o old); pixels = pixels-after slots c pixels memory o old })
-  unfolding counted control-after pixels-after withRegister loaded painted tagWith marked closed inRange
-  done-sized (access b p) r w = made (listed-set banks b p (page-fits b p r)) registers tags (z .pixels-long)
-  done-sized (precharge b) r w = made (listed-set banks b 65535 (lit< tt)) registers tags (z .pixels-long)
-  done-sized (duplicate b p) r w = made (listed-set banks b p (page-fits b p r)) registers tags (z .pixels-long)
-  done-sized (readBlock b k s) r w = made banks registers (listed-set tags s 0 (lit< tt)) (simp length-update (z .pixels-long))
-  done-sized (writeBlock m b k s) r w = made banks registers tags (z .pixels-long)
-  done-sized (dataRead s k) r w = made banks registers tags (z .pixels-long)
-  done-sized (dataWrite d) r w = made banks registers (listed-set tags _ _ (word-lt 32 _)) (simp length-update (z .pixels-long))
-  done-sized (writeTag m s t) r w = made banks registers (listed-set tags s _ (tag-fits m s t w)) (z .pixels-long)
-  done-sized (writeRegister a v) r w = made banks (listed-set registers (a - 1) _ (register-fits (eqb a 6) v w)) tags (z .pixels-long)
-  done-sized (readRegister a) r w = made banks registers tags (z .pixels-long)
-  done-sized unknown r w = made banks registers tags (z .pixels-long)
+      → Sized (record { control = ticked (effect slots c o read .control); pixels = pixelsAfter c pixels memory (effect slots c o read .move) })
+  unfolding ticked effect pixelsAfter withRegister loaded painted tagWith marked closed inRange
+  done-sized (access b p) r w = made (listed-set (z .banks) b p (page-fits b p r)) (z .registers) (z .tags) (z .pixels-long)
+  done-sized (precharge b) r w = made (listed-set (z .banks) b 65535 (lit< tt)) (z .registers) (z .tags) (z .pixels-long)
+  done-sized (duplicate b p) r w = made (listed-set (z .banks) b p (page-fits b p r)) (z .registers) (z .tags) (z .pixels-long)
+  done-sized (readBlock b k s) r w = made (z .banks) (z .registers) (listed-set (z .tags) s 0 (lit< tt)) (simp length-update (z .pixels-long))
+  done-sized (writeBlock m b k s) r w = made (z .banks) (z .registers) (z .tags) (z .pixels-long)
+  done-sized (dataRead s k) r w = made (z .banks) (z .registers) (z .tags) (z .pixels-long)
+  done-sized (dataWrite d) r w = made (z .banks) (z .registers) (listed-set (z .tags) _ _ (word-lt 32 _)) (simp length-update (z .pixels-long))
+  done-sized (writeTag m s t) r w = made (z .banks) (z .registers) (listed-set (z .tags) s _ (tag-fits m s t w)) (z .pixels-long)
+  done-sized (writeRegister a v) r w = made (z .banks) (listed-set (z .registers) (a - 1) _ (register-fits (eqb a 6) v w)) (z .tags) (z .pixels-long)
+  done-sized (readRegister a) r w = made (z .banks) (z .registers) (z .tags) (z .pixels-long)
+  done-sized unknown r w = made (z .banks) (z .registers) (z .tags) (z .pixels-long)
 
 -- ---- a call
 

@@ -1,40 +1,57 @@
 -- The parts of a chip stored one behind the other are its block. Assumes nothing.
-use mathlib.Core.Path.{_≡_, sym, ap, _∙_}
-use mathlib.Core.List.{List, [], _∷_, _++_}
-use Prim.Native.Nat.{ℕ, _*_}
-use lib.ListN.{length}
+use mathlib.Core.Path.{_≡_, refl, sym, ap, ap₂, _∙_}
+use mathlib.Core.List.{List, [], _∷_, _++_, flatten, append-assoc, append-nil}
+use Prim.Native.Nat.{ℕ, _+_, _*_}
+use native.Mathlib.Nat.{add-assoc}
+use lib.ListN.{length, length-append}
+use lib.Dec.{lit<}
 use lib.Seq.{sets}
 use Rattle.lists.specs.Words.{halves, words}
-use Rattle.lists.proofs.Runs.{length-halves, length-words}
+use Rattle.lists.proofs.Seams.{start-long}
+use Rattle.lists.proofs.Rows.{length-row}
 use Rattle.lists.proofs.Stores.{sets-more, sets-whole}
 use Rattle.chip.specs.declared.Control.{Control}
 use Rattle.chip.specs.declared.Chip.{Chip}
-use Rattle.block.specs.Block.{header, flags, encodeControl, encode}
-use Rattle.block.proofs.RoundTrip.{Sized, length-control, length-encode}
+use Rattle.block.specs.Block.{banksAt, registersAt, flagsAt, tagsAt, pixelsAt, IsBlock, header, flags, controlParts, parts, encode}
+use Rattle.block.proofs.Sized.{Sized}
+use Rattle.block.proofs.Parts.{starts, length-encode}
+use Rattle.stored.specs.Laid.{laid}
+
+laid-from : (ls : List (List ℕ)) (p : ℕ) (a s : List ℕ) → laid ls (p + length a) (sets s p a) ≡ sets s p (a ++ flatten ls)
+unfolding laid flatten
+laid-from [] p a s = ap (sets s p) (sym (append-nil a))
+laid-from (l ∷ ls) p a s =
+    ap₂ (laid ls) (add-assoc p (length a) (length l) ∙ ap (λ (n : ℕ). p + n) (sym (length-append a l))) (sets-more a l s p (length a) refl)
+    ∙ laid-from ls p (a ++ l) s ∙ ap (sets s p) (append-assoc a l (flatten ls))
 
 -- those before the pixels; f is the flags' word
 pub control-stored : (c : Control) (f : ℕ) (s : List ℕ) {s₁ s₂ s₃ s₄ s₅ : List ℕ}
     → length (c .banks) ≡ 4 → length (c .registers) ≡ 7 → f ≡ flags c
-    → s₁ ≡ sets s 0 (halves (header (c .pages))) → s₂ ≡ sets s₁ 16 (halves (c .banks)) → s₃ ≡ sets s₂ 24 (words (c .registers))
-    → s₄ ≡ sets s₃ 52 (words (f ∷ c .counter ∷ [])) → s₅ ≡ sets s₄ 60 (words (c .tags)) → s₅ ≡ sets s 0 (encodeControl c)
-unfolding encodeControl
+    → s₁ ≡ sets s 0 (halves (header (c .pages))) → s₂ ≡ sets s₁ banksAt (halves (c .banks)) → s₃ ≡ sets s₂ registersAt (words (c .registers))
+    → s₄ ≡ sets s₃ flagsAt (words (f ∷ c .counter ∷ [])) → s₅ ≡ sets s₄ tagsAt (words (c .tags)) → s₅ ≡ laid (controlParts c) 0 s
+unfolding controlParts laid header
 control-stored c f s banks registers e e₁ e₂ e₃ e₄ e₅ =
-    let H = halves (header (c .pages)) in
-    let B = halves (c .banks) in
-    let R = words (c .registers) in
-    let F = words (flags c ∷ c .counter ∷ []) in
-    let T = words (c .tags) in
-    rw (e₅, e₄, e₃, e₂, e₁, e)
-    (sets-more F T (sets (sets (sets s 0 H) 16 B) 24 R) 52 8 (length-words (flags c ∷ c .counter ∷ []))
-    ∙ sets-more R (F ++ T) (sets (sets s 0 H) 16 B) 24 28 (length-words (c .registers) ∙ ap (λ (n : ℕ). 4 * n) registers)
-    ∙ sets-more B (R ++ (F ++ T)) (sets s 0 H) 16 8 (length-halves (c .banks) ∙ ap (λ (n : ℕ). 2 * n) banks)
-    ∙ sets-more H (B ++ (R ++ (F ++ T))) s 0 16 (unfold header in length-halves (header (c .pages))))
+    let h = length-row 2 (header (c .pages)) in
+    let b = length-row 2 (c .banks) ∙ ap (λ (n : ℕ). 2 * n) banks in
+    let r = length-row 4 (c .registers) ∙ ap (λ (n : ℕ). 4 * n) registers in
+    let g = length-row 4 (flags c ∷ c .counter ∷ []) in
+    rw (e₅, e₄, e₃, e₂, e₁, e, h, b, r, g)
 
--- and the pixels
-pub chip-stored : (chip : Chip) (s : List ℕ) {s₁ s₂ : List ℕ} → Sized chip → length s ≡ 348
-    → s₁ ≡ sets s 0 (encodeControl (chip .control)) → s₂ ≡ sets s₁ 92 (chip .pixels) → s₂ ≡ encode chip
-unfolding encode
+-- a last list behind others
+flatten-last : (ls : List (List ℕ)) (l : List ℕ) → flatten (ls ++ (l ∷ [])) ≡ flatten ls ++ l
+unfolding flatten
+flatten-last [] l = append-nil l
+flatten-last (x ∷ ls) l = rw (flatten-last ls l) (sym (append-assoc x (flatten ls) l))
+
+-- and the pixels behind them
+pub chip-stored : (chip : Chip) (s : List ℕ) {s₁ s₂ : List ℕ} → Sized chip → IsBlock s
+    → s₁ ≡ laid (controlParts (chip .control)) 0 s → s₂ ≡ sets s₁ pixelsAt (chip .pixels) → s₂ ≡ encode chip
+unfolding encode parts
 chip-stored chip s z e e₁ e₂ =
-    rw (e₂, e₁)
-    (sets-more (encodeControl (chip .control)) (chip .pixels) s 0 92 (length-control chip z)
-    ∙ sets-whole (encodeControl (chip .control) ++ chip .pixels) s (length-encode chip z ∙ sym e))
+    let before = controlParts (chip .control) in
+    let long : length (flatten before) ≡ pixelsAt = unfold parts controlParts in (start-long 5 (parts chip) (lit< tt) ∙ starts chip z .4) in
+    e₂
+    ∙ ap (λ (l : List ℕ). sets l pixelsAt (chip .pixels)) (e₁ ∙ laid-from before 0 [] s)
+    ∙ sets-more (flatten before) (chip .pixels) s 0 pixelsAt long
+    ∙ ap (sets s 0) (sym (flatten-last before (chip .pixels)))
+    ∙ sets-whole (encode chip) s (length-encode chip z ∙ sym e)

@@ -10,7 +10,7 @@ use Rattle.numbers.proofs.Tests.{test-holds, test-fails}
 use Rattle.layout.proofs.Lines as lines
 use Rattle.chip.specs.Answers.{packed}
 use Rattle.block.specs.OnBlock.{blockLineNumber}
-use Rattle.own.proofs.Changes.{well-long}
+use Rattle.own.proofs.WellFormed.{well-long}
 use Rattle.panel.specs.Packs.{lineOffset}
 use Rattle.panel.proofs.Packings.{line-told, line-lt}
 use Rattle.panel.proofs.panel_scan_line.Statement.{statement}

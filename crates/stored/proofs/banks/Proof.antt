@@ -1,13 +1,13 @@
 -- `stored::banks` meets its contract: the four open pages. Assumes nothing.
 use borrow.Author.Needs.{needs}
 use Rattle.chip.specs.State.{openPage}
-use Rattle.lists.specs.Words.{halvesAt}
+use Rattle.lists.specs.Words.{rowAt}
 use Rattle.block.specs.Block.{decodeControl}
 use Rattle.stored.proofs.banks.Statement.{statement}
 use Rattle.stored.proofs.banks.Tie as tie
 
 returns : tie.Need-returns
-unfolding openPage decodeControl halvesAt
+unfolding openPage decodeControl rowAt
 returns c =
     rw (
       c .open-page4 .ensures,

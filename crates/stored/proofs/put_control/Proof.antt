@@ -1,10 +1,14 @@
 -- `stored::put_control` meets its contract: its parts, one behind the other. Assumes nothing.
-use mathlib.Core.Path.{_≡_, sym}
+use mathlib.Core.List.{List}
+use mathlib.Core.Path.{_≡_, sym, ap, _∙_}
 use native.Mathlib.Omega.{arith}
 use lib.ListN.{length}
+use lib.Seq.{sets}
+use Prim.Native.Nat.{ℕ}
 use denote.Ref.{now}
 use borrow.Author.Needs.{needs}
-use Rattle.block.specs.Block.{header, flags}
+use Rattle.lists.specs.Words.{halves}
+use Rattle.block.specs.Block.{flags}
 use Rattle.stored.proofs.Stores.{control-stored}
 use Rattle.stored.proofs.put_control.Statement.{statement}
 use Rattle.stored.proofs.put_control.Tie as tie
@@ -20,7 +24,7 @@ tags-long c = search needs
 
 -- the function's entry, from the places where arrays are lent
 abbrev by-banks : tie.After-banks2 → tie.Start
-by-banks c = c .before .before .before .before .before .before .before .before .before .before .before .before
+by-banks c = c .before .before .before .before .before .before .before .before .before .before .before .before .before
 
 abbrev by-registers : tie.After-registers2 → tie.Start
 by-registers c = by-banks (c .before .before .before .before .before)
@@ -41,7 +45,7 @@ put-words-requires-3 : tie.Need-put-words-requires-3
 put-words-requires-3 c κs = omega (arith, tags-long (by-tags c))
 
 returns : tie.Need-returns
-unfolding flags header
+unfolding flags
 returns c =
     let tags = c .before .before in
     let flagged = tags .before .before .before .before .before in
@@ -50,10 +54,10 @@ returns c =
     let headed = banks .before .before .before .before .before in
     let start = by-tags (tags .before) in
     control-stored (start .args .control) (headed .before .before .before .before .flags .result) (now (start .args .s)) (banks-long start) (registers-long start)
-    (headed .before .before .before .before .flags .ensures) (headed .put-halves .ensures) (banks .put-halves2 .ensures) (registers .put-words .ensures)
+    (headed .before .before .before .before .flags .ensures) (headed .put-halves .ensures ∙ ap (λ (l : List ℕ). sets (now (start .args .s)) 0 (halves l)) (headed .before .before .before .before .before .before .before .header .ensures)) (banks .put-halves2 .ensures) (registers .put-words .ensures)
     (flagged .put-words2 .ensures) (tags .put-words3 .ensures)
 
 pub put-control-spec : {M : Type 1} → statement M
 put-control-spec = tie.close
-    (tie.spec (λ c κs. search needs) (λ c. search needs) (λ c κs. search needs) (λ c. search needs) put-halves-requires-2 (λ c. search needs)
+    (tie.spec (λ c κs. search needs) (λ c κs. search needs) (λ c. search needs) (λ c κs. search needs) (λ c. search needs) put-halves-requires-2 (λ c. search needs)
     put-words-requires (λ c. search needs) (λ c κs. search needs) slice-aggregate-put-words-3 put-words-requires-3 (λ c. search needs) returns)

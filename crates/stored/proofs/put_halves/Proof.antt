@@ -5,7 +5,7 @@ use native.Mathlib.Omega.{arith}
 use lib.ListN.{length, take}
 use lib.Seq.{sets, length-sets, take-all}
 use borrow.Author.Needs.{needs}
-use Rattle.lists.specs.Words.{halves}
+use Rattle.lists.specs.Words.{row, halves}
 use Rattle.lists.proofs.Stores.{half-turn}
 use Rattle.stored.proofs.put_halves.Statement.{statement}
 use Rattle.stored.proofs.put_halves.Tie as tie
@@ -17,7 +17,7 @@ abbrev μ-loop : tie.MeasureT-loop
 μ-loop s₀ at xs i₀ s i = length xs - i
 
 loop-holds : tie.Need-loop-holds Inv-loop μ-loop
-unfolding halves
+unfolding row
 loop-holds c = (omega arith, refl, refl)
 
 loop-again : tie.Need-loop-again Inv-loop μ-loop

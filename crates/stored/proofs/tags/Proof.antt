@@ -1,13 +1,13 @@
 -- `stored::tags` meets its contract: the eight tags. Assumes nothing.
 use borrow.Author.Needs.{needs}
-use Rattle.chip.specs.Steps.{tagOf}
-use Rattle.lists.specs.Words.{wordsAt}
+use Rattle.chip.specs.Changes.{tagOf}
+use Rattle.lists.specs.Words.{rowAt}
 use Rattle.block.specs.Block.{decodeControl}
 use Rattle.stored.proofs.tags.Statement.{statement}
 use Rattle.stored.proofs.tags.Tie as tie
 
 returns : tie.Need-returns
-unfolding tagOf decodeControl wordsAt
+unfolding tagOf decodeControl rowAt
 returns c =
     rw (
       c .tag8 .ensures,

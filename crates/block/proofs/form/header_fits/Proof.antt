@@ -7,8 +7,8 @@ use lib.Dec.{eqb}
 use denote.Ref.{now}
 use borrow.Author.Needs.{needs}
 use Rattle.lists.specs.Words.{halfAt, wordAt, halvesAt}
-use Rattle.block.specs.Block.{header, same}
-use Rattle.block.proofs.Forms.{header-test}
+use Rattle.block.specs.Block.{banksAt, registersAt, flagsAt, tagsAt, pixelsAt, blockBytes, header, same}
+use Rattle.block.proofs.Forms.{pair, header-test}
 use Rattle.numbers.proofs.Tests.{equal, unequal}
 use Rattle.block.proofs.form.header_fits.Statement.{statement}
 use Rattle.block.proofs.form.header_fits.Tie as tie
@@ -16,8 +16,8 @@ use Rattle.block.proofs.form.header_fits.Tie as tie
 -- the test, as code makes it
 tested : (c : tie.After-shared-slice-known) → same (halvesAt 8 (now (c .before .args .s)) 0) (header (halfAt (now (c .before .args .s)) 0))
     ≡ (eqb (halfAt (now (c .before .args .s)) 2) 8
-    && (eqb (wordAt (now (c .before .args .s)) 4) 0x0018_0010
-    && (eqb (wordAt (now (c .before .args .s)) 8) 0x003c_0034 && eqb (wordAt (now (c .before .args .s)) 12) 0x015c_005c)))
+    && (eqb (wordAt (now (c .before .args .s)) 4) (pair banksAt registersAt)
+    && (eqb (wordAt (now (c .before .args .s)) 8) (pair flagsAt tagsAt) && eqb (wordAt (now (c .before .args .s)) 12) (pair pixelsAt blockBytes))))
 tested c = header-test (now (c .before .args .s)) (λ a. omega (arith, c .shared-slice-known .given a))
 
 returns : tie.Need-returns
@@ -39,7 +39,7 @@ returns-4 c =
     let one = equal (c .before .before .before .before .before .before .half-at .ensures) (c .before .before .before .before .before .if1 .left) in
     let two = equal (c .before .before .before .before .word-at .ensures) (c .before .before .before .if2 .left) in
     let three = equal (c .before .before .word-at2 .ensures) (c .before .if3 .left) in
-    ap (λ (x : ℕ). eqb x 0x015c_005c) (c .word-at3 .ensures) ∙ sym (tested (c .before .before .before .before .before .before .before) ∙ rw (one, two, three))
+    ap (λ (x : ℕ). eqb x (pair pixelsAt blockBytes)) (c .word-at3 .ensures) ∙ sym (tested (c .before .before .before .before .before .before .before) ∙ rw (one, two, three))
 
 pub header-fits-spec : {M : Type 1} → statement M
 header-fits-spec = tie.close (tie.spec (λ c κs. search needs) returns (λ c κs. search needs) returns-2 (λ c κs. search needs) returns-3 (λ c κs. search needs) returns-4)

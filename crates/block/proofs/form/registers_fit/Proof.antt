@@ -13,7 +13,7 @@ use Rattle.chip.specs.State.{storable}
 use Rattle.chip.proofs.Forms.{register-test}
 use Rattle.lists.specs.Words.{wordsAt}
 use Rattle.block.specs.Block.{decodeControl}
-use Rattle.lists.proofs.Alike.{words-lt}
+use Rattle.lists.proofs.Rows.{words-lt}
 use Rattle.block.proofs.form.registers_fit.Statement.{statement}
 use Rattle.block.proofs.form.registers_fit.Tie as tie
 
@@ -27,7 +27,7 @@ tested : (c : tie.After-shared-slice-known) → every 7 (λ n. within (held c n)
 unfolding decodeControl
 tested c =
     let s = now (c .before .args .s) in
-    register-test (wordsAt 7 s 24) (words-lt 7 24 s (λ a. omega (arith, c .shared-slice-known .given a)))
+    register-test (wordsAt 7 s 24) (words-lt s (λ a. omega (arith, c .shared-slice-known .given a)) 7 24)
 
 -- what the first two tests answer
 fifth : (c : tie.After-within) → c .within .result ≡ within (held (c .before .before) 4) 0x2f2f_2f2f

@@ -11,7 +11,7 @@ use Rattle.layout.specs.Memory.{pagesFit}
 use Rattle.numbers.proofs.Tests.{test-holds, test-fails}
 use Rattle.lists.specs.Words.{halfAt, wordAt, halvesAt}
 use Rattle.chip.specs.State.{wellFormed}
-use Rattle.block.specs.Block.{header, same, decodeControl, wellFormedBlock}
+use Rattle.block.specs.Block.{flagsAt, header, same, decodeControl, wellFormedBlock}
 use Rattle.block.proofs.form.well_formed.Statement.{statement}
 use Rattle.block.proofs.form.well_formed.Tie as tie
 
@@ -21,7 +21,7 @@ block c = now (c .before .before .args .s)
 
 -- the flags' test, which comes last
 abbrev flagged : tie.Else1 → Bool
-flagged c = within (wordAt (block c) 52) 3
+flagged c = within (wordAt (block c) flagsAt) 3
 
 -- past the test of the header, and of P
 headed : (c : tie.Else2) → same (halvesAt 8 (block (c .before .before)) 0) (header (halfAt (block (c .before .before)) 0)) ≡ true

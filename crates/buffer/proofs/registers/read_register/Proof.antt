@@ -8,14 +8,14 @@ use borrow.Author.Needs.{needs}
 use Rattle.numbers.proofs.Tests.{and-left, test-holds, test-fails}
 use Rattle.chip.specs.declared.Answer.the-variants.{Done}
 use Rattle.chip.specs.Operations.{readRegister, inRange}
-use Rattle.chip.specs.Steps.{control-after, pixels-after}
-use Rattle.chip.specs.Refusals.{badBits, onOpen, onClosed}
-use Rattle.chip.specs.Answers.{refusalOf, answer}
+use Rattle.chip.specs.Effects.{effect, pixelsAfter}
+use Rattle.numbers.specs.Numbers.{first}
+use Rattle.chip.specs.Refusals.{asks}
+use Rattle.chip.specs.Answers.{refusalOf}
 use Rattle.block.specs.Block.{decodeControl}
-use Rattle.block.proofs.Held.{held-of}
+use Rattle.block.proofs.Puts.{stores-of, ticks}
 use Rattle.own.proofs.Lines.{row-read-register}
-use Rattle.own.proofs.Changes.{counts}
-use Rattle.own.proofs.Owns.{outside, none-applies, refused, done-answer, done-block}
+use Rattle.own.proofs.Owns.{outside, by-asks, refused, done-answer, done-block}
 use Rattle.buffer.proofs.Settings.{register-range}
 use Rattle.buffer.proofs.registers.read_register.Statement.{statement}
 use Rattle.buffer.proofs.registers.read_register.Tie as tie
@@ -41,17 +41,17 @@ register-requires : tie.Need-register-requires
 register-requires c κs = (entry (c .before) .pre .0, range (c .before) .0, range (c .before) .1)
 
 returns-2 : tie.Need-returns-2
-unfolding inRange badBits onOpen onClosed answer control-after pixels-after
+unfolding inRange asks first effect pixelsAfter
 returns-2 c =
     let past = c .before .before .before .before .before .before in
     let s = now (entry past .args .s) in
     let x = entry past .args .x in
     let fits = test-holds (past .before .number-fits .ensures) (past .if1 .left) in
-    let none = none-applies (decodeControl s) (readRegister (x .a)) _ fits refl refl refl in
+    let none = by-asks (decodeControl s) (readRegister (x .a)) _ fits refl in
     let r = row-read-register x (entry past .pre .2) in
-    let held = held-of s (λ a. omega (arith, past .before .before .slice-known .given a)) (entry past .pre .1) in (
+    let held = stores-of s (λ a. omega (arith, past .before .before .slice-known .given a)) (entry past .pre .1) in (
       c .before .before .done .ensures .0 ∙ ap (λ (v : ℕ). Done v false false) (c .before .before .before .before .register .ensures) ∙ done-answer s x (readRegister (x .a)) _ r none,
-      λ memory. c .before .before .done .ensures .1 ∙ counts held ∙ done-block s x (readRegister (x .a)) _ r none memory,
+      λ memory. c .before .before .done .ensures .1 ∙ ticks held ∙ done-block s x (readRegister (x .a)) _ r none memory,
     )
 
 pub read-register-spec : {M : Type 1} → statement M

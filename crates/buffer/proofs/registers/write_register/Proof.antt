@@ -11,15 +11,16 @@ use borrow.Author.Needs.{needs}
 use Rattle.bits.specs.Bits.{within}
 use Rattle.numbers.proofs.Tests.{and-left, test-holds, test-fails}
 use Rattle.chip.specs.declared.Control.{Control}
-use Rattle.chip.specs.Steps.{withRegister, counted, control-after, pixels-after}
+use Rattle.chip.specs.Changes.{withRegister, ticked}
+use Rattle.chip.specs.Effects.{effect, pixelsAfter}
 use Rattle.chip.specs.Operations.{writeRegister, inRange}
-use Rattle.chip.specs.Refusals.{badBits, onOpen, onClosed}
-use Rattle.chip.specs.Answers.{refusalOf, answer}
-use Rattle.block.specs.Block.{encode, decodeControl}
-use Rattle.block.proofs.Held.{Held, held-of, held-register, held-flags}
-use Rattle.own.proofs.Owns.{tests, outside, not-allowed, none-applies, refused, done-answer, done-block}
+use Rattle.numbers.specs.Numbers.{first}
+use Rattle.chip.specs.Refusals.{asks}
+use Rattle.chip.specs.Answers.{refusalOf}
+use Rattle.block.specs.Block.{encode, decodeControl, tickedIn, pixelsIn}
+use Rattle.block.proofs.Puts.{Stores, stores-of, stores-register, stores-flags, ticks}
+use Rattle.own.proofs.Owns.{tests, outside, by-asks, refused, done-answer, done-block}
 use Rattle.own.proofs.Lines.{row-write-register}
-use Rattle.own.proofs.Changes.{further, counts}
 use Rattle.buffer.proofs.Settings.{register-range, plain-register, compare-register}
 use Rattle.buffer.proofs.registers.write_register.Statement.{statement}
 use Rattle.buffer.proofs.registers.write_register.Tie as tie
@@ -34,16 +35,16 @@ range c = register-range _ (and-left _ _ (test-holds (c .before .register-fits .
 
 -- past the test of the bits too no number applies
 none : (c : tie.Else2) → (let x = entry (c .before .before .before) .args .x in tests (decodeControl (now (entry (c .before .before .before) .args .s))) (writeRegister (x .a) (x .given)) (x .b ∷ x .c ∷ x .d ∷ []) ≡ 0)
-unfolding inRange badBits onOpen onClosed
+unfolding inRange asks first
 none c =
     let past = c .before .before .before in
     let x = entry past .args .x in
     let fits = test-holds (past .before .register-fits .ensures) (past .if1 .left) in
     let allowed = test-holds (c .before .within .ensures ∙ ap (within (x .given)) (c .before .before .writable-bits .ensures)) (c .if2 .left) in
-    none-applies (decodeControl (now (entry past .args .s))) (writeRegister (x .a) (x .given)) _ fits (rw allowed) refl refl
+    by-asks (decodeControl (now (entry past .args .s))) (writeRegister (x .a) (x .given)) _ fits {k = 0} (rw allowed)
 
-held : (c : tie.Else1) → Held (now (entry c .args .s)) (decodeControl (now (entry c .args .s))) (drop 92 (now (entry c .args .s)))
-held c = held-of (now (entry c .args .s)) (λ a. omega (arith, c .before .before .slice-known .given a)) (entry c .pre .1)
+held : (c : tie.Else1) → Stores (now (entry c .args .s)) (decodeControl (now (entry c .args .s))) (pixelsIn (now (entry c .args .s)))
+held c = stores-of (now (entry c .args .s)) (λ a. omega (arith, c .before .before .slice-known .given a)) (entry c .pre .1)
 
 given-small : (c : tie.Start) → c .args .x .given < 2 ^ 32
 given-small c = search needs
@@ -61,18 +62,18 @@ writable-bits-requires : tie.Need-writable-bits-requires
 writable-bits-requires c κs = range c
 
 returns-2 : tie.Need-returns-2
-unfolding inRange badBits refusalOf
+unfolding inRange asks first refusalOf
 returns-2 c =
     let past = c .before .before .before in
     let s = now (entry past .args .s) in
     let x = entry past .args .x in
     let fits = test-holds (past .before .register-fits .ensures) (past .if1 .left) in
     let bad = test-fails (c .before .within .ensures ∙ ap (within (x .given)) (c .before .before .writable-bits .ensures)) (c .if2 .taken) in
-    let res = refused s x (writeRegister (x .a) (x .given)) _ (row-write-register x (entry past .pre .2)) (not-allowed (decodeControl s) (writeRegister (x .a) (x .given)) _ fits (rw bad)) in
+    let res = refused s x (writeRegister (x .a) (x .given)) _ (row-write-register x (entry past .pre .2)) (by-asks (decodeControl s) (writeRegister (x .a) (x .given)) _ fits {k = 5} (rw bad)) in
     (res .0, res .1)
 
 returns-3 : tie.Need-returns-3
-unfolding answer control-after pixels-after
+unfolding effect pixelsAfter
 returns-3 c =
     let past = c .before .before .before .before .before .before .before .before .before .before .before .before .before in
     let s = now (entry past .args .s) in
@@ -81,10 +82,10 @@ returns-3 c =
     let zero = none (c .before .before .before .before .before .before .before .before .before .before) in
     let six : x .a ≡ 6 = c .before .before .before .before .before .before .before .before .if3 .taken in
     let small = given-small (entry past) in
-    let put = held-flags (held-register (held past) 6 (x .given % 2 ^ 24) (lit≤ tt) (lit≤ tt) (omega arith)) _ _ in (
+    let put = stores-flags (stores-register (held past) 6 (x .given % 2 ^ 24) (lit≤ tt) (lit≤ tt) (omega arith)) _ _ in (
       c .before .before .done .ensures .0 ∙ done-answer s x (writeRegister (x .a) (x .given)) _ r zero,
-      λ memory. c .before .before .done .ensures .1 ∙ ap further (c .before .before .before .before .before .before .put-compare .ensures) ∙ counts put
-          ∙ ap (λ (c : Control). encode (record { control = counted c; pixels = drop 92 s })) (compare-register (decodeControl s) (x .given) ∙ ap (λ (n : ℕ). withRegister (decodeControl s) n (x .given)) (sym six))
+      λ memory. c .before .before .done .ensures .1 ∙ ap tickedIn (c .before .before .before .before .before .before .put-compare .ensures) ∙ ticks put
+          ∙ ap (λ (c : Control). encode (record { control = ticked c; pixels = pixelsIn s })) (compare-register (decodeControl s) (x .given) ∙ ap (λ (n : ℕ). withRegister (decodeControl s) n (x .given)) (sym six))
           ∙ done-block s x (writeRegister (x .a) (x .given)) _ r zero memory,
     )
 
@@ -92,17 +93,17 @@ put-register-requires : tie.Need-put-register-requires
 put-register-requires c κs = let past = c .before .before .before .before .before .before in (entry past .pre .0, range past .0, range past .1)
 
 returns-4 : tie.Need-returns-4
-unfolding answer control-after pixels-after
+unfolding effect pixelsAfter
 returns-4 c =
     let past = c .before .before .before .before .before .before .before .before .before .before .before .before .before in
     let s = now (entry past .args .s) in
     let x = entry past .args .x in
     let r = row-write-register x (entry past .pre .2) in
     let zero = none (c .before .before .before .before .before .before .before .before .before .before) in
-    let put = held-register (held past) (x .a) (x .given) (range past .0) (range past .1) (given-small (entry past)) in (
+    let put = stores-register (held past) (x .a) (x .given) (range past .0) (range past .1) (given-small (entry past)) in (
       c .before .before .done2 .ensures .0 ∙ done-answer s x (writeRegister (x .a) (x .given)) _ r zero,
-      λ memory. c .before .before .done2 .ensures .1 ∙ ap further (c .before .before .before .before .before .before .put-register .ensures) ∙ counts put
-          ∙ ap (λ (c : Control). encode (record { control = counted c; pixels = drop 92 s })) (plain-register (decodeControl s) (x .a) (x .given) (ne-eqb (x .a) 6 (c .before .before .before .before .before .before .before .before .if3 .left)))
+      λ memory. c .before .before .done2 .ensures .1 ∙ ap tickedIn (c .before .before .before .before .before .before .put-register .ensures) ∙ ticks put
+          ∙ ap (λ (c : Control). encode (record { control = ticked c; pixels = pixelsIn s })) (plain-register (decodeControl s) (x .a) (x .given) (ne-eqb (x .a) 6 (c .before .before .before .before .before .before .before .before .if3 .left)))
           ∙ done-block s x (writeRegister (x .a) (x .given)) _ r zero memory,
     )
 

@@ -10,16 +10,17 @@ use denote.Ref.{now}
 use borrow.Author.Tests.{ltb-true}
 use borrow.Author.Needs.{needs}
 use Rattle.numbers.proofs.Tests.{and-left, test-holds, test-fails}
-use Rattle.chip.specs.Steps.{withTag, counted, tagOf, control-after, pixels-after}
+use Rattle.chip.specs.Changes.{withTag, ticked, tagOf}
+use Rattle.chip.specs.Effects.{effect, pixelsAfter}
 use Rattle.chip.specs.Operations.{writeTag, inRange}
 use Rattle.chip.specs.State.{slots}
-use Rattle.chip.specs.Refusals.{badBits, onOpen, onClosed}
-use Rattle.chip.specs.Answers.{refusalOf, answer}
-use Rattle.block.specs.Block.{encode, decodeControl}
-use Rattle.block.proofs.Held.{held-of, held-tag}
+use Rattle.numbers.specs.Numbers.{first}
+use Rattle.chip.specs.Refusals.{asks}
+use Rattle.chip.specs.Answers.{refusalOf}
+use Rattle.block.specs.Block.{encode, decodeControl, tickedIn, pixelsIn}
+use Rattle.block.proofs.Puts.{stores-of, stores-tag, ticks}
 use Rattle.own.proofs.Lines.{row-write-tag}
-use Rattle.own.proofs.Changes.{further, counts}
-use Rattle.own.proofs.Owns.{outside, none-applies, refused, done-answer, done-block}
+use Rattle.own.proofs.Owns.{outside, by-asks, refused, done-answer, done-block}
 use Rattle.buffer.proofs.slots.write_tag.Statement.{statement}
 use Rattle.buffer.proofs.slots.write_tag.Tie as tie
 
@@ -52,24 +53,24 @@ put-tag-requires : tie.Need-put-tag-requires
 put-tag-requires c κs = (entry (c .before .before .before .before .before .before) .pre .0, slot-there (c .before .before .before .before .before .before))
 
 returns-2 : tie.Need-returns-2
-unfolding inRange slots badBits onOpen onClosed answer control-after pixels-after
+unfolding inRange slots asks first effect pixelsAfter
 returns-2 c =
     let past = c .before .before .before .before .before .before .before .before .before .before .before .before .before in
     let s = now (entry past .args .s) in
     let x = entry past .args .x in
     let fits = test-holds (past .before .slot-fits .ensures) (past .if1 .left) in
-    let none = none-applies (decodeControl s) (writeTag (eqb (x .op) 12) (x .a) (x .given)) _ fits refl refl refl in
+    let none = by-asks (decodeControl s) (writeTag (eqb (x .op) 12) (x .a) (x .given)) _ fits refl in
     let r = row-write-tag x (entry past .pre .2) (entry past .pre .3) in
     let picked = c .before .before .before .before .before .before .before .before .before .pick in
     let was = tagOf (decodeControl s) (x .a) in
     let tag : bitOr (picked .result) (x .given) ≡ cond (eqb (x .op) 12) (x .given) (bitOr was (x .given))
     = ap (λ (t : ℕ). bitOr t (x .given)) (picked .ensures ∙ ap (cond (eqb (x .op) 12) 0) (c .before .before .before .before .before .before .before .before .before .before .tag .ensures)) ∙ replaced (eqb (x .op) 12) was (x .given) in
     let small : bitOr (picked .result) (x .given) < 2 ^ 32 = or-lt 32 (picked .result) (x .given) (search needs) (search needs) in
-    let start = held-of s (λ a. omega (arith, past .before .before .slice-known .given a)) (entry past .pre .1) in
-    let held = held-tag start (x .a) (bitOr (picked .result) (x .given)) (slot-there past) small in (
+    let start = stores-of s (λ a. omega (arith, past .before .before .slice-known .given a)) (entry past .pre .1) in
+    let held = stores-tag start (x .a) (bitOr (picked .result) (x .given)) (slot-there past) small in (
       c .before .before .done .ensures .0 ∙ done-answer s x (writeTag (eqb (x .op) 12) (x .a) (x .given)) _ r none,
-      λ memory. c .before .before .done .ensures .1 ∙ ap further (c .before .before .before .before .before .before .put-tag .ensures) ∙ counts held
-          ∙ ap (λ (t : ℕ). encode (record { control = counted (withTag (decodeControl s) (x .a) t); pixels = drop 92 s })) tag
+      λ memory. c .before .before .done .ensures .1 ∙ ap tickedIn (c .before .before .before .before .before .before .put-tag .ensures) ∙ ticks held
+          ∙ ap (λ (t : ℕ). encode (record { control = ticked (withTag (decodeControl s) (x .a) t); pixels = pixelsIn s })) tag
           ∙ done-block s x (writeTag (eqb (x .op) 12) (x .a) (x .given)) _ r none memory,
     )
 

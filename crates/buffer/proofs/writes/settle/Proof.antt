@@ -8,14 +8,14 @@ use Rattle.buffer.proofs.writes.settle.Tie as tie
 returns : tie.Need-returns
 unfolding settled
 returns c =
-    let counted = c .before .before in
-    let marked = counted .before .before .before .before in
+    let last = c .before .before in
+    let marked = last .before .before .before .before in
     let tagged = marked .before .before .before .before .before .before in
     let put = tagged .before .before .before .before .before in
     let picked = put .before .before in (
       refl,
       rw (
-        counted .count .ensures,
+        last .tick .ensures,
         marked .mark-hit .ensures,
         tagged .put-tag .ensures,
         put .put-slot-word .ensures,

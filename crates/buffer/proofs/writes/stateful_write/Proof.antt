@@ -15,16 +15,17 @@ use Rattle.pixel.specs.Writes.{intoSlot, intoWord, outcomeOf}
 use Rattle.pixel.proofs.Outcomes.{into-slot-lt, into-word-lt}
 use Rattle.numbers.proofs.Tests.{and-left, test-holds, test-fails}
 use Rattle.chip.specs.declared.Answer.the-variants.{Done}
-use Rattle.chip.specs.Steps.{oldWord, slotByte}
+use Rattle.chip.specs.Effects.{reading, slotByte, effect}
 use Rattle.chip.specs.Operations.{dataWrite, inRange}
 use Rattle.chip.specs.State.{slots}
-use Rattle.chip.specs.Refusals.{badBits, onOpen, onClosed}
-use Rattle.chip.specs.Answers.{refusalOf, answer}
+use Rattle.numbers.specs.Numbers.{first}
+use Rattle.chip.specs.Refusals.{asks}
+use Rattle.chip.specs.Answers.{refusalOf}
 use Rattle.chip.proofs.Accepted.{write-range}
-use Rattle.block.specs.Block.{decodeControl}
+use Rattle.block.specs.Block.{decodeControl, pixelsIn}
 use Rattle.own.proofs.Lines.{asked, row-stateful}
-use Rattle.own.proofs.Owns.{outside, none-applies, refused, done-answer, done-block}
-use Rattle.buffer.proofs.Draws.{write-leaves}
+use Rattle.own.proofs.Owns.{outside, by-asks, refused, done-answer, done-block}
+use Rattle.buffer.proofs.Draws.{write-leaves, write-answers}
 use Rattle.buffer.proofs.writes.stateful_write.Statement.{statement}
 use Rattle.buffer.proofs.writes.stateful_write.Tie as tie
 
@@ -66,24 +67,24 @@ settle-requires c κs =
     (entry past .pre .0, rw (c .before .before .before .before .into-slot .ensures) (into-slot-lt 8 registers w (range past .0)), rw (c .before .before .before .into-word .ensures) (into-word-lt registers w (range past .1)))
 
 returns-2 : tie.Need-returns-2
-unfolding inRange slots badBits onOpen onClosed answer oldWord outcomeOf
+unfolding inRange slots asks first
 returns-2 c =
     let past = c .before .before .before .before .before .before .before .before .before .before .before in
     let s = now (entry past .args .s) in
     let x = entry past .args .x in
     let w = write (entry past) in
     let fits = test-holds (past .before .write-fits .ensures) (past .if1 .left) in
-    let none = none-applies (decodeControl s) (dataWrite w) _ fits refl refl refl in
+    let none = by-asks (decodeControl s) (dataWrite w) _ fits refl in
     let r = row-stateful x (entry past .pre .2) (entry past .pre .3) in
     let regs = decodeControl s .registers in
     let read = c .before .before .before .before .before .before .before .before .registers .ensures in
-    let old = wordIn (slotByte (drop 92 s) (x .a)) (x .b) in
+    let old = wordIn (slotByte (pixelsIn s) (x .a)) (x .b) in
     let slot : c .before .before .before .before .before .before .before .into-slot .result ≡ intoSlot 8 regs w = c .before .before .before .before .before .before .before .into-slot .ensures ∙ ap (λ (l : List ℕ). intoSlot 8 l w) read in
     let word : c .before .before .before .before .before .before .into-word .result ≡ intoWord regs w = c .before .before .before .before .before .before .into-word .ensures ∙ ap (λ (l : List ℕ). intoWord l w) read in
-    let drew : c .before .before .before .before .drawn .result ≡ outcomeOf regs w old (wordIn (slotByte (drop 92 s) (intoSlot 8 regs w)) (intoWord regs w))
+    let drew : c .before .before .before .before .drawn .result ≡ outcomeOf regs w old (wordIn (slotByte (pixelsIn s) (intoSlot 8 regs w)) (intoWord regs w))
     = c .before .before .before .before .drawn .ensures ∙ rw (slot, word, read) in
     let leaves = write-leaves s (λ a. omega (arith, past .before .before .slice-known .given a)) (entry past .pre .1) w (range past .0) (range past .1) (range past .2) in (
-      c .before .before .settle .ensures .0 ∙ ap (λ (o : Outcome). Done 0 (o .pass) (o .written)) drew ∙ done-answer s x (dataWrite w) _ r none,
+      c .before .before .settle .ensures .0 ∙ ap (λ (o : Outcome). Done 0 (o .pass) (o .written)) drew ∙ write-answers s w _ ∙ done-answer s x (dataWrite w) _ r none,
       λ memory. c .before .before .settle .ensures .1 ∙ rw (slot, word, drew) (leaves memory ∙ done-block s x (dataWrite w) _ r none memory),
     )
 

@@ -13,16 +13,17 @@ use Rattle.pixel.specs.declared.Outcome.{Outcome}
 use Rattle.pixel.specs.Writes.{outcomeOf}
 use Rattle.numbers.proofs.Tests.{and-left, test-holds, test-fails}
 use Rattle.chip.specs.declared.Answer.the-variants.{Done}
-use Rattle.chip.specs.Steps.{oldWord, slotByte}
+use Rattle.chip.specs.Effects.{reading, slotByte, effect}
 use Rattle.chip.specs.Operations.{dataWrite, inRange}
 use Rattle.chip.specs.State.{slots}
-use Rattle.chip.specs.Refusals.{badBits, onOpen, onClosed}
-use Rattle.chip.specs.Answers.{refusalOf, answer}
+use Rattle.numbers.specs.Numbers.{first}
+use Rattle.chip.specs.Refusals.{asks}
+use Rattle.chip.specs.Answers.{refusalOf}
 use Rattle.chip.proofs.Accepted.{write-range}
-use Rattle.block.specs.Block.{decodeControl}
+use Rattle.block.specs.Block.{decodeControl, pixelsIn}
 use Rattle.own.proofs.Lines.{asked, row-stateless}
-use Rattle.own.proofs.Owns.{outside, none-applies, refused, done-answer, done-block}
-use Rattle.buffer.proofs.Draws.{stateless-slot, stateless-word, write-leaves}
+use Rattle.own.proofs.Owns.{outside, by-asks, refused, done-answer, done-block}
+use Rattle.buffer.proofs.Draws.{stateless-slot, stateless-word, write-leaves, write-answers}
 use Rattle.buffer.proofs.writes.stateless_write.Statement.{statement}
 use Rattle.buffer.proofs.writes.stateless_write.Tie as tie
 
@@ -56,21 +57,21 @@ settle-requires : tie.Need-settle-requires
 settle-requires c κs = let past = c .before .before .before .before .before in (entry past .pre .0, range past .0, range past .1)
 
 returns-2 : tie.Need-returns-2
-unfolding inRange slots badBits onOpen onClosed answer oldWord outcomeOf
+unfolding inRange slots asks first
 returns-2 c =
     let past = c .before .before .before .before .before .before .before .before in
     let s = now (entry past .args .s) in
     let x = entry past .args .x in
     let w = write (entry past) in
     let fits = test-holds (past .before .write-fits .ensures) (past .if1 .left) in
-    let none = none-applies (decodeControl s) (dataWrite w) _ fits refl refl refl in
+    let none = by-asks (decodeControl s) (dataWrite w) _ fits refl in
     let r = row-stateless x (entry past .pre .2) (entry past .pre .3) in
     let regs = decodeControl s .registers in
-    let old = wordIn (slotByte (drop 92 s) (x .a)) (x .b) in
+    let old = wordIn (slotByte (pixelsIn s) (x .a)) (x .b) in
     let drew : c .before .before .before .before .stateless .result ≡ outcomeOf regs w old old
     = c .before .before .before .before .stateless .ensures regs old ∙ ap (outcomeOf regs w old) (c .before .before .before .before .before .slot-word .ensures) in
     let leaves = write-leaves s (λ a. omega (arith, past .before .before .slice-known .given a)) (entry past .pre .1) w (range past .0) (range past .1) (range past .2) in (
-      c .before .before .settle .ensures .0 ∙ ap (λ (o : Outcome). Done 0 (o .pass) (o .written)) drew ∙ done-answer s x (dataWrite w) _ r none,
+      c .before .before .settle .ensures .0 ∙ ap (λ (o : Outcome). Done 0 (o .pass) (o .written)) drew ∙ write-answers s w _ ∙ done-answer s x (dataWrite w) _ r none,
       λ memory. c .before .before .settle .ensures .1 ∙ rw drew
           (rw (stateless-slot regs (eqb (x .op) 8) x, stateless-word regs (eqb (x .op) 8) x) at (leaves memory) ∙ done-block s x (dataWrite w) _ r none memory),
     )

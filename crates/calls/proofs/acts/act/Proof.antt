@@ -10,7 +10,7 @@ use borrow.Author.Needs.{needs}
 use Rattle.layout.specs.Memory.{size}
 use Rattle.numbers.proofs.Tests.{test-holds, test-fails}
 use Rattle.block.specs.Block.{wellFormedBlock, decodeControl}
-use Rattle.own.proofs.Changes.{well-long}
+use Rattle.own.proofs.WellFormed.{well-long}
 use Rattle.calls.proofs.ByLine.{ill-formed, wrong-length}
 use Rattle.calls.proofs.acts.act.Statement.{statement}
 use Rattle.calls.proofs.acts.act.Tie as tie

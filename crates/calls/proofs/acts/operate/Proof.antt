@@ -5,7 +5,7 @@ use Prim.Native.Nat.{ℕ, _<_, _≤_}
 use native.Mathlib.Omega.{arith}
 use denote.Ref.{now}
 use borrow.Author.Needs.{needs}
-use Rattle.chip.specs.Steps.{memory-after}
+use Rattle.chip.specs.Effects.{effect, memoryAfter}
 use Rattle.own.proofs.Lines.{row-stateful}
 use Rattle.calls.proofs.ByLine.{Ready, beside-memory}
 use Rattle.calls.proofs.acts.operate.Statement.{statement}
@@ -20,7 +20,7 @@ other-requires : tie.Need-other-requires
 other-requires c κs = (search needs, c .before .before .before .before .before .pre .1, search needs, apart (c .before .before .before .before .before .args .x .op) (c .before .before .if1 .came) (λ a. a .taken) (λ b. b .1 .left))
 
 returns : tie.Need-returns
-unfolding memory-after
+unfolding effect memoryAfter
 returns c =
     let p = c .before .before .before .before .before .before .before in
     let ready : Ready (now (p .before .args .s)) (now (p .before .args .memory))

@@ -1,13 +1,13 @@
 -- `calls::acts::other` meets its contract: each arm is its operation, and the last is no operation. Assumes nothing.
 use mathlib.Core.Path.{_≡_, refl}
-use mathlib.Core.Bool.{false, _&&_}
+use mathlib.Core.Bool.{false}
 use Prim.Native.Nat.{_<_, _≤_}
 use native.Mathlib.Omega.{arith}
-use lib.Dec.{leb}
 use denote.Ref.{now}
 use borrow.Author.Needs.{needs}
 use borrow.Author.Tests.{le-leb, lt-leb}
-use Rattle.chip.specs.Steps.{memory-after}
+use Rattle.chip.specs.Operations.{isOperation}
+use Rattle.chip.specs.Effects.{effect, memoryAfter}
 use Rattle.own.proofs.Lines.{row-access, row-precharge, row-read-block, row-data-read, row-stateless, row-write-tag, row-write-register, row-read-register}
 use Rattle.calls.proofs.ByLine.{Ready, unknown, by-its-line, beside-memory}
 use Rattle.calls.proofs.acts.other.Statement.{statement}
@@ -28,7 +28,7 @@ stateless-write-requires : tie.Need-stateless-write-requires
 stateless-write-requires c κs = (search needs, c .before .before .before .before .before .before .before .pre .1, omega (arith, c .before .before .if2 .left, c .before .before .before .before .match .rest .0 .0 .1), omega (arith, c .before .if3 .taken))
 
 returns : tie.Need-returns
-unfolding memory-after
+unfolding effect memoryAfter
 returns c =
     let p = c .before .before .before .before .before .before in
     let is = c .before .before .before .before .match .keys1 in
@@ -36,7 +36,7 @@ returns c =
     beside-memory (ready p) (p .before .args .x) (row-access _ is) refl (omega (arith, is)) (omega (arith, is)) (e .0) (e .1 _)
 
 returns-2 : tie.Need-returns-2
-unfolding memory-after
+unfolding effect memoryAfter
 returns-2 c =
     let p = c .before .before .before .before .before .before in
     let is = c .before .before .before .before .match .keys2 in
@@ -51,7 +51,7 @@ returns-3 c =
     by-its-line (ready p) (p .before .args .x) (omega (arith, is)) (omega (arith, is)) (e .0) (e .1) (e .2)
 
 returns-4 : tie.Need-returns-4
-unfolding memory-after
+unfolding effect memoryAfter
 returns-4 c =
     let p = c .before .before .before .before .before .before .before in
     let is = c .before .before .before .before .before .match .keys4 in
@@ -59,7 +59,7 @@ returns-4 c =
     beside-memory (ready p) (p .before .args .x) (row-read-block _ is) refl (omega (arith, is)) (omega (arith, is)) (e .0) (e .1)
 
 returns-5 : tie.Need-returns-5
-unfolding memory-after
+unfolding effect memoryAfter
 returns-5 c =
     let p = c .before .before .before .before .before .before in
     let is = c .before .before .before .before .match .keys5 in
@@ -67,7 +67,7 @@ returns-5 c =
     beside-memory (ready p) (p .before .args .x) (row-data-read _ is) refl (omega (arith, is)) (omega (arith, is)) (e .0) (e .1 _)
 
 returns-6 : tie.Need-returns-6
-unfolding memory-after
+unfolding effect memoryAfter
 returns-6 c =
     let p = c .before .before .before .before .before .before in
     let is = c .before .before .before .before .match .keys6 in
@@ -75,7 +75,7 @@ returns-6 c =
     beside-memory (ready p) (p .before .args .x) (row-write-register _ is) refl (omega (arith, is)) (omega (arith, is)) (e .0) (e .1 _)
 
 returns-7 : tie.Need-returns-7
-unfolding memory-after
+unfolding effect memoryAfter
 returns-7 c =
     let p = c .before .before .before .before .before .before in
     let is = c .before .before .before .before .match .keys7 in
@@ -89,7 +89,7 @@ returns-8 c =
     by-its-line (ready p) (p .before .args .x) (omega (arith, c .before .before .before .before .before .before .before .before .if1 .left)) (omega (arith, c .before .before .before .before .before .before .before .if2 .taken)) (e .0) (e .1) (e .2)
 
 returns-9 : tie.Need-returns-9
-unfolding memory-after
+unfolding effect memoryAfter
 returns-9 c =
     let p = c .before .before .before .before .before .before .before .before .before in
     let low : 8 ≤ p .before .args .x .op = omega (arith, c .before .before .before .before .before .if2 .left, c .before .before .before .before .before .before .before .match .rest .0 .0 .1) in
@@ -98,7 +98,7 @@ returns-9 c =
     beside-memory (ready p) (p .before .args .x) (row-stateless _ low high) refl (omega (arith, low)) (omega (arith, high)) (e .0) (e .1 _)
 
 returns-10 : tie.Need-returns-10
-unfolding memory-after
+unfolding effect memoryAfter
 returns-10 c =
     let p = c .before .before .before .before .before .before .before .before .before .before .before in
     let low : 12 ≤ p .before .args .x .op = omega (arith, c .before .before .before .before .before .if4 .left) in
@@ -107,20 +107,22 @@ returns-10 c =
     beside-memory (ready p) (p .before .args .x) (row-write-tag _ low high) refl (omega (arith, low)) (omega (arith, high)) (e .0) (e .1 _)
 
 returns-11 : tie.Need-returns-11
+unfolding isOperation
 returns-11 c =
     let p = c .before .before .before in
-    let none : (leb 1 (p .before .args .x .op) && leb (p .before .args .x .op) 15) ≡ false = rw (lt-leb 1 (p .before .args .x .op) (omega (arith, c .if1 .taken))) in
+    let none : isOperation (p .before .args .x .op) ≡ false = rw (lt-leb 1 (p .before .args .x .op) (omega (arith, c .if1 .taken))) in
     unknown (ready p) (p .before .args .x) none
 
 returns-12 : tie.Need-returns-12
 returns-12 c = absurd (omega (arith, c .if4 .taken, c .before .before .before .before .before .before .before .pre .3 (omega (arith, c .before .if3 .left))))
 
 returns-13 : tie.Need-returns-13
+unfolding isOperation
 returns-13 c =
     let p = c .before .before .before .before .before .before .before in
     let op = p .before .args .x .op in
     let above : 15 < op = omega (arith, c .if5 .left, c .before .before .before .before .before .match .rest .1, c .before .before .before .before .before .match .rest .0 .1) in
-    let none : (leb 1 op && leb op 15) ≡ false = rw (le-leb 1 op (omega (arith, above)), lt-leb op 15 above) in
+    let none : isOperation op ≡ false = rw (le-leb 1 op (omega (arith, above)), lt-leb op 15 above) in
     unknown (ready p) (p .before .args .x) none
 
 pub other-spec : {M : Type 1} → statement M

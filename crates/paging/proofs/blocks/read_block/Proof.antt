@@ -8,18 +8,18 @@ use denote.Ref.{now}
 use borrow.Author.Needs.{needs}
 use Rattle.layout.specs.Memory.{address}
 use Rattle.numbers.proofs.Tests.{and-left, test-holds, test-fails, equal, unequal}
-use Rattle.lists.specs.Words.{putWord}
 use Rattle.bank.specs.Work.{inSlot, loaded}
 use Rattle.chip.specs.State.{openPage, slots, closed, isClosed}
 use Rattle.chip.specs.Operations.{readBlock, inRange}
-use Rattle.chip.specs.Steps.{control-after, pixels-after}
-use Rattle.chip.specs.Refusals.{badBits, onOpen, onClosed}
-use Rattle.chip.specs.Answers.{refusalOf, answer}
+use Rattle.chip.specs.Effects.{effect, pixelsAfter}
+use Rattle.chip.specs.Refusals.{asks}
+use Rattle.chip.specs.Answers.{refusalOf}
 use Rattle.chip.proofs.Accepted.{block-range}
-use Rattle.block.specs.Block.{tagAt, decodeControl}
-use Rattle.block.proofs.Held.{held-tag, held-pixels, held-of}
-use Rattle.own.proofs.Owns.{on-closed, outside, none-applies, refused, done-answer, done-block}
-use Rattle.own.proofs.Changes.{pages-in, page-below, further, counts}
+use Rattle.block.specs.Block.{putTag, decodeControl, tickedIn}
+use Rattle.bank.proofs.Slots.{slot-inside}
+use Rattle.block.proofs.Puts.{stores-tag, stores-pixels, stores-of, ticks}
+use Rattle.own.proofs.Owns.{outside, by-asks, bank-shut, bank-open, refused, done-answer, done-block}
+use Rattle.own.proofs.WellFormed.{pages-in, page-below}
 use Rattle.own.proofs.Lines.{row-read-block}
 use Rattle.paging.proofs.blocks.read_block.Statement.{statement}
 use Rattle.paging.proofs.blocks.read_block.Tie as tie
@@ -45,14 +45,14 @@ open-page-requires : tie.Need-open-page-requires
 open-page-requires c κs = (entry (c .before) .pre .0, range (c .before) .0)
 
 returns-2 : tie.Need-returns-2
-unfolding inRange slots badBits onOpen onClosed isClosed closed refusalOf
+unfolding inRange slots asks refusalOf
 returns-2 c =
     let past = c .before .before .before in
     let s = now (entry past .args .s) in
     let x = entry past .args .x in
     let fits = test-holds (past .before .block-fits .ensures) (past .if1 .left) in
     let shut = equal (c .before .open-page .ensures) (c .if2 .taken) in
-    let res = refused s x (readBlock (x .a) (x .b) (x .c)) _ (row-read-block x (entry past .pre .3)) (on-closed (decodeControl s) (readBlock (x .a) (x .b) (x .c)) _ fits refl refl shut) in
+    let res = refused s x (readBlock (x .a) (x .b) (x .c)) _ (row-read-block x (entry past .pre .3)) (by-asks (decodeControl s) (readBlock (x .a) (x .b) (x .c)) _ fits (bank-shut (decodeControl s) (x .a) shut)) in
     (res .0, res .1 _)
 
 load-slot-requires : tie.Need-load-slot-requires
@@ -67,19 +67,19 @@ put-tag-requires : tie.Need-put-tag-requires
 put-tag-requires c κs = (search needs, range (c .before .before .before .before .before .before .before .before) .2)
 
 returns-3 : tie.Need-returns-3
-unfolding inRange slots badBits onOpen onClosed isClosed closed answer control-after pixels-after loaded
+unfolding inRange slots asks effect pixelsAfter loaded
 returns-3 c =
     let past = c .before .before .before .before .before .before .before .before .before .before .before .before .before .before .before in
     let s = now (entry past .args .s) in
     let x = entry past .args .x in
     let fits = test-holds (past .before .block-fits .ensures) (past .if1 .left) in
-    let none = none-applies (decodeControl s) (readBlock (x .a) (x .b) (x .c)) _ fits refl refl (unequal (c .before .before .before .before .before .before .before .before .before .before .before .before .before .open-page .ensures) (c .before .before .before .before .before .before .before .before .before .before .before .before .if2 .left)) in
+    let none = by-asks (decodeControl s) (readBlock (x .a) (x .b) (x .c)) _ fits (bank-open (decodeControl s) (x .a) (unequal (c .before .before .before .before .before .before .before .before .before .before .before .before .before .open-page .ensures) (c .before .before .before .before .before .before .before .before .before .before .before .before .if2 .left))) in
     let r = row-read-block x (entry past .pre .3) in
     let at = address (decodeControl s .pages) (x .a) (openPage (decodeControl s .banks) (x .a)) (x .b) in
-    let start = held-of s (λ a. omega (arith, past .before .before .before .slice-known .given a)) (entry past .pre .1) in
-    let filled = held-pixels start 32 (inSlot (x .c)) (λ i was. getD (now (entry past .args .memory)) (at i) 0) (λ i was hi hw. omega (arith, past .before .before .shared-slice-known .given (at i))) in (
+    let start = stores-of s (λ a. omega (arith, past .before .before .before .slice-known .given a)) (entry past .pre .1) in
+    let filled = stores-pixels start 32 (inSlot (x .c)) (λ i was. getD (now (entry past .args .memory)) (at i) 0) (slot-inside (x .c) (range past .2)) in (
       c .before .before .done .ensures .0 ∙ done-answer s x (readBlock (x .a) (x .b) (x .c)) _ r none,
-      c .before .before .done .ensures .1 ∙ ap further (c .before .before .before .before .before .before .put-tag .ensures ∙ ap (putWord (tagAt (x .c)) 0) (c .before .before .before .before .before .before .before .before .before .before .load-slot .ensures)) ∙ counts (held-tag filled (x .c) 0 (range past .2) (lit< tt))
+      c .before .before .done .ensures .1 ∙ ap tickedIn (c .before .before .before .before .before .before .put-tag .ensures ∙ ap (putTag (x .c) 0) (c .before .before .before .before .before .before .before .before .before .before .load-slot .ensures)) ∙ ticks (stores-tag filled (x .c) 0 (range past .2) (lit< tt))
           ∙ done-block s x (readBlock (x .a) (x .b) (x .c)) _ r none _,
     )
 

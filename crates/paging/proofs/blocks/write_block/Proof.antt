@@ -9,16 +9,16 @@ use borrow.Author.Needs.{needs}
 use Rattle.numbers.proofs.Tests.{and-left, test-holds, test-fails, equal, unequal}
 use Rattle.bank.specs.Work.{tagged}
 use Rattle.chip.specs.declared.Answer.the-variants.{Done}
-use Rattle.chip.specs.Steps.{memory-after, control-after, pixels-after}
+use Rattle.chip.specs.Effects.{memoryAfter, effect, pixelsAfter}
 use Rattle.chip.specs.Operations.{writeBlock, inRange}
 use Rattle.chip.specs.State.{slots, closed, isClosed}
-use Rattle.chip.specs.Refusals.{badBits, onOpen, onClosed}
-use Rattle.chip.specs.Answers.{refusalOf, answer}
+use Rattle.chip.specs.Refusals.{asks}
+use Rattle.chip.specs.Answers.{refusalOf}
 use Rattle.chip.proofs.Accepted.{block-range}
 use Rattle.block.specs.Block.{decodeControl}
-use Rattle.block.proofs.Held.{held-of}
-use Rattle.own.proofs.Owns.{done-memory, on-closed, outside, none-applies, refused, done-answer, done-block}
-use Rattle.own.proofs.Changes.{pages-in, page-below, counts}
+use Rattle.block.proofs.Puts.{stores-of, ticks}
+use Rattle.own.proofs.Owns.{done-memory, outside, by-asks, bank-shut, bank-open, refused, done-answer, done-block}
+use Rattle.own.proofs.WellFormed.{pages-in, page-below}
 use Rattle.own.proofs.Lines.{row-write-block}
 use Rattle.paging.proofs.blocks.write_block.Statement.{statement}
 use Rattle.paging.proofs.blocks.write_block.Tie as tie
@@ -44,14 +44,14 @@ open-page-requires : tie.Need-open-page-requires
 open-page-requires c κs = (entry (c .before) .pre .0, range (c .before) .0)
 
 returns-2 : tie.Need-returns-2
-unfolding inRange slots badBits onOpen onClosed isClosed closed refusalOf
+unfolding inRange slots asks refusalOf
 returns-2 c =
     let past = c .before .before .before in
     let s = now (entry past .args .s) in
     let x = entry past .args .x in
     let fits = test-holds (past .before .block-fits .ensures) (past .if1 .left) in
     let shut = equal (c .before .open-page .ensures) (c .if2 .taken) in
-    let res = refused s x (writeBlock (eqb (x .op) 5) (x .a) (x .b) (x .c)) _ (row-write-block x (entry past .pre .3) (entry past .pre .4)) (on-closed (decodeControl s) (writeBlock (eqb (x .op) 5) (x .a) (x .b) (x .c)) _ fits refl refl shut) in
+    let res = refused s x (writeBlock (eqb (x .op) 5) (x .a) (x .b) (x .c)) _ (row-write-block x (entry past .pre .3) (entry past .pre .4)) (by-asks (decodeControl s) (writeBlock (eqb (x .op) 5) (x .a) (x .b) (x .c)) _ fits (bank-shut (decodeControl s) (x .a) shut)) in
     (res .0, res .1 _, res .2 _)
 
 write-slot-requires : tie.Need-write-slot-requires
@@ -66,18 +66,18 @@ tag-requires : tie.Need-tag-requires
 tag-requires c κs = (entry (c .before .before .before .before .before .before .before .before .before) .pre .0, range (c .before .before .before .before .before .before .before .before .before) .2)
 
 returns-3 : tie.Need-returns-3
-unfolding inRange slots badBits onOpen onClosed isClosed closed answer control-after pixels-after memory-after
+unfolding inRange slots asks effect pixelsAfter memoryAfter
 returns-3 c =
     let past = c .before .before .before .before .before .before .before .before .before .before .before .before .before .before .before in
     let s = now (entry past .args .s) in
     let x = entry past .args .x in
     let fits = test-holds (past .before .block-fits .ensures) (past .if1 .left) in
-    let none = none-applies (decodeControl s) (writeBlock (eqb (x .op) 5) (x .a) (x .b) (x .c)) _ fits refl refl (unequal (c .before .before .before .before .before .before .before .before .before .before .before .before .before .open-page .ensures) (c .before .before .before .before .before .before .before .before .before .before .before .before .if2 .left)) in
+    let none = by-asks (decodeControl s) (writeBlock (eqb (x .op) 5) (x .a) (x .b) (x .c)) _ fits (bank-open (decodeControl s) (x .a) (unequal (c .before .before .before .before .before .before .before .before .before .before .before .before .before .open-page .ensures) (c .before .before .before .before .before .before .before .before .before .before .before .before .if2 .left))) in
     let r = row-write-block x (entry past .pre .3) (entry past .pre .4) in
-    let held = held-of s (λ a. omega (arith, past .before .before .before .slice-known .given a)) (entry past .pre .1) in
-    let counted-bytes = c .before .before .before .tagged-bytes .ensures ∙ ap tagged (c .before .before .before .before .before .tag .ensures) in (
-      c .before .before .done .ensures .0 ∙ ap (λ (v : ℕ). Done v false false) counted-bytes ∙ done-answer s x (writeBlock (eqb (x .op) 5) (x .a) (x .b) (x .c)) _ r none,
-      c .before .before .done .ensures .1 ∙ counts held ∙ done-block s x (writeBlock (eqb (x .op) 5) (x .a) (x .b) (x .c)) _ r none _,
+    let held = stores-of s (λ a. omega (arith, past .before .before .before .slice-known .given a)) (entry past .pre .1) in
+    let ticked-bytes = c .before .before .before .tagged-bytes .ensures ∙ ap tagged (c .before .before .before .before .before .tag .ensures) in (
+      c .before .before .done .ensures .0 ∙ ap (λ (v : ℕ). Done v false false) ticked-bytes ∙ done-answer s x (writeBlock (eqb (x .op) 5) (x .a) (x .b) (x .c)) _ r none,
+      c .before .before .done .ensures .1 ∙ ticks held ∙ done-block s x (writeBlock (eqb (x .op) 5) (x .a) (x .b) (x .c)) _ r none _,
       c .before .before .before .before .before .before .before .before .before .write-slot .ensures ∙ done-memory s x (writeBlock (eqb (x .op) 5) (x .a) (x .b) (x .c)) _ r none _,
     )
 

@@ -5,8 +5,8 @@ use lib.ListN.{length-take, length-drop}
 use denote.Ref.{now}
 use borrow.Author.Needs.{needs}
 use Rattle.bank.specs.Work.{backMask}
-use Rattle.bank.proofs.Parts.{part-is}
-use Rattle.chip.specs.Steps.{slotByte}
+use Rattle.chip.specs.Effects.{slotByte}
+use Rattle.block.specs.Block.{pixelsIn}
 use Rattle.paging.proofs.blocks.write_slot.Statement.{statement}
 use Rattle.paging.proofs.blocks.write_slot.Tie as tie
 
@@ -17,12 +17,12 @@ write-back-in-requires c κs =
     rw (paged .before .pages .ensures, paged .open-page .ensures) (pre .1, pre .2, pre .3, pre .4, pre .5, simp (length-take, length-drop) (omega (arith, pre .0, pre .6)))
 
 returns : tie.Need-returns
-unfolding backMask slotByte
+unfolding backMask slotByte pixelsIn
 returns c =
     let masked = c .before .before .before .before .before .before .before .before in
     let paged = masked .before .before .before .before in
     c .before .before .write-back-in .ensures
-    ∙ rw (paged .before .pages .ensures, paged .open-page .ensures, masked .before .before .before .tag .ensures, masked .pick .ensures, masked .before .register .ensures, part-is (now (paged .before .before .before .before .args .s)) 92)
+    ∙ rw (paged .before .pages .ensures, paged .open-page .ensures, masked .before .before .before .tag .ensures, masked .pick .ensures, masked .before .register .ensures)
 
 pub write-slot-spec : {M : Type 1} → statement M
 write-slot-spec = tie.close (tie.spec (λ c κs. search needs) (λ c κs. search needs) (λ c κs. search needs) (λ c κs. search needs) (λ c κs. search needs) (λ c. search needs) (λ c. search needs) (λ c. search needs) (λ c. search needs) (λ c. search needs) (λ c. search needs) (λ c. search needs) (λ c. search needs) write-back-in-requires (λ c. search needs) returns)

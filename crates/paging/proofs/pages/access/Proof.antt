@@ -5,16 +5,17 @@ use native.Mathlib.Omega.{arith}
 use denote.Ref.{now}
 use borrow.Author.Needs.{needs}
 use Rattle.numbers.proofs.Tests.{and-left, test-holds, test-fails, equal, unequal}
-use Rattle.chip.specs.Refusals.{badBits, onOpen, onClosed}
-use Rattle.chip.specs.Answers.{refusalOf, answer}
-use Rattle.chip.specs.Steps.{control-after, pixels-after}
+use Rattle.numbers.specs.Numbers.{first}
+use Rattle.chip.specs.Refusals.{asks}
+use Rattle.chip.specs.Answers.{refusalOf}
+use Rattle.chip.specs.Effects.{effect, pixelsAfter}
 use Rattle.chip.specs.Operations.{access, inRange}
 use Rattle.chip.specs.State.{closed, isClosed}
 use Rattle.chip.proofs.Accepted.{page-range}
-use Rattle.block.specs.Block.{decodeControl}
-use Rattle.block.proofs.Held.{held-of, held-page}
-use Rattle.own.proofs.Changes.{further, counts, pages-in}
-use Rattle.own.proofs.Owns.{outside, on-open, none-applies, refused, done-answer, done-block}
+use Rattle.block.specs.Block.{decodeControl, tickedIn}
+use Rattle.block.proofs.Puts.{stores-of, stores-page, ticks}
+use Rattle.own.proofs.WellFormed.{pages-in}
+use Rattle.own.proofs.Owns.{outside, by-asks, access-open, access-shut, refused, done-answer, done-block}
 use Rattle.own.proofs.Lines.{row-access}
 use Rattle.paging.proofs.pages.access.Statement.{statement}
 use Rattle.paging.proofs.pages.access.Tie as tie
@@ -43,14 +44,14 @@ open-page-requires : tie.Need-open-page-requires
 open-page-requires c κs = (entry (c .before) .pre .0, range (c .before) .0)
 
 returns-2 : tie.Need-returns-2
-unfolding inRange badBits onOpen isClosed closed refusalOf
+unfolding inRange asks refusalOf
 returns-2 c =
     let past = c .before .before .before in
     let s = now (entry past .args .s) in
     let x = entry past .args .x in
     let fits = test-holds (past .before .page-fits .ensures) (past .if1 .left) in
     let open-now = unequal (c .before .open-page .ensures) (c .if2 .taken) in
-    let res = refused s x (access (x .a) (x .b)) _ (row-access x (entry past .pre .2)) (on-open (decodeControl s) (access (x .a) (x .b)) _ fits refl (rw open-now)) in
+    let res = refused s x (access (x .a) (x .b)) _ (row-access x (entry past .pre .2)) (by-asks (decodeControl s) (access (x .a) (x .b)) _ fits (access-open (decodeControl s) (x .a) open-now)) in
     (res .0, res .1)
 
 cast-put-page : tie.Need-cast-put-page
@@ -60,19 +61,19 @@ put-page-requires : tie.Need-put-page-requires
 put-page-requires c κs = (entry (c .before .before .before .before .before) .pre .0, range (c .before .before .before .before .before) .0)
 
 returns-3 : tie.Need-returns-3
-unfolding inRange badBits onOpen onClosed isClosed closed answer control-after pixels-after
+unfolding inRange asks effect pixelsAfter
 returns-3 c =
     let past = c .before .before .before .before .before .before .before .before .before .before .before .before in
     let s = now (entry past .args .s) in
     let x = entry past .args .x in
     let fits = test-holds (past .before .page-fits .ensures) (past .if1 .left) in
     let shut = equal (c .before .before .before .before .before .before .before .before .before .before .open-page .ensures) (c .before .before .before .before .before .before .before .before .before .if2 .left) in
-    let none = none-applies (decodeControl s) (access (x .a) (x .b)) _ fits refl (rw shut) refl in
+    let none = by-asks (decodeControl s) (access (x .a) (x .b)) _ fits (access-shut (decodeControl s) (x .a) shut) in
     let r = row-access x (entry past .pre .2) in
-    let start = held-of s (λ a. omega (arith, past .before .before .before .slice-known .given a)) (entry past .pre .1) in
-    let held = held-page start (x .a) (x .b) (range past .0) (page-small past) in (
+    let start = stores-of s (λ a. omega (arith, past .before .before .before .slice-known .given a)) (entry past .pre .1) in
+    let held = stores-page start (x .a) (x .b) (range past .0) (page-small past) in (
       c .before .before .done .ensures .0 ∙ done-answer s x (access (x .a) (x .b)) _ r none,
-      λ memory. c .before .before .done .ensures .1 ∙ ap further (c .before .before .before .before .before .before .put-page .ensures) ∙ counts held ∙ done-block s x (access (x .a) (x .b)) _ r none memory,
+      λ memory. c .before .before .done .ensures .1 ∙ ap tickedIn (c .before .before .before .before .before .before .put-page .ensures) ∙ ticks held ∙ done-block s x (access (x .a) (x .b)) _ r none memory,
     )
 
 pub access-spec : {M : Type 1} → statement M

@@ -7,16 +7,16 @@ use borrow.Author.Needs.{needs}
 use Rattle.layout.specs.Memory.{place}
 use Rattle.numbers.proofs.Tests.{and-left, test-holds, test-fails, equal, unequal}
 use Rattle.bank.specs.Work.{copied}
-use Rattle.chip.specs.Refusals.{badBits, onOpen, onClosed}
-use Rattle.chip.specs.Answers.{refusalOf, answer}
-use Rattle.chip.specs.Steps.{control-after, pixels-after, memory-after}
+use Rattle.chip.specs.Refusals.{asks}
+use Rattle.chip.specs.Answers.{refusalOf}
+use Rattle.chip.specs.Effects.{effect, pixelsAfter, memoryAfter}
 use Rattle.chip.specs.Operations.{duplicate, inRange}
 use Rattle.chip.specs.State.{closed, isClosed}
 use Rattle.chip.proofs.Accepted.{page-range}
-use Rattle.block.specs.Block.{decodeControl}
-use Rattle.block.proofs.Held.{held-of, held-page}
-use Rattle.own.proofs.Changes.{further, counts, pages-in, page-below}
-use Rattle.own.proofs.Owns.{outside, on-closed, none-applies, refused, done-answer, done-block, done-memory}
+use Rattle.block.specs.Block.{decodeControl, tickedIn}
+use Rattle.block.proofs.Puts.{stores-of, stores-page, ticks}
+use Rattle.own.proofs.WellFormed.{pages-in, page-below}
+use Rattle.own.proofs.Owns.{outside, by-asks, bank-shut, bank-open, refused, done-answer, done-block, done-memory}
 use Rattle.own.proofs.Lines.{row-duplicate}
 use Rattle.paging.proofs.pages.duplicate.Statement.{statement}
 use Rattle.paging.proofs.pages.duplicate.Tie as tie
@@ -45,14 +45,14 @@ open-page-requires : tie.Need-open-page-requires
 open-page-requires c κs = (entry (c .before) .pre .0, range (c .before) .0)
 
 returns-2 : tie.Need-returns-2
-unfolding inRange badBits onOpen onClosed isClosed closed refusalOf
+unfolding inRange asks refusalOf
 returns-2 c =
     let past = c .before .before .before in
     let s = now (entry past .args .s) in
     let x = entry past .args .x in
     let fits = test-holds (past .before .page-fits .ensures) (past .if1 .left) in
     let shut = equal (c .before .open-page .ensures) (c .if2 .taken) in
-    let res = refused s x (duplicate (x .a) (x .b)) _ (row-duplicate x (entry past .pre .3)) (on-closed (decodeControl s) (duplicate (x .a) (x .b)) _ fits refl refl shut) in
+    let res = refused s x (duplicate (x .a) (x .b)) _ (row-duplicate x (entry past .pre .3)) (by-asks (decodeControl s) (duplicate (x .a) (x .b)) _ fits (bank-shut (decodeControl s) (x .a) shut)) in
     (res .0, res .1 _, res .2 _)
 
 cast-named : tie.Need-cast-named
@@ -71,19 +71,19 @@ put-page-requires : tie.Need-put-page-requires
 put-page-requires c κs = (entry (c .before .before .before .before .before .before .before .before .before .before .before .before) .pre .0, range (c .before .before .before .before .before .before .before .before .before .before .before .before) .0)
 
 returns-3 : tie.Need-returns-3
-unfolding inRange badBits onOpen onClosed isClosed closed answer control-after pixels-after memory-after
+unfolding inRange asks effect pixelsAfter memoryAfter
 returns-3 c =
     let past = c .before .before .before .before .before .before .before .before .before .before .before .before .before .before .before .before .before .before .before in
     let s = now (entry past .args .s) in
     let x = entry past .args .x in
     let fits = test-holds (past .before .page-fits .ensures) (past .if1 .left) in
     let from = c .before .before .before .before .before .before .before .before .before .before .before .before .before .before .before .before .before .open-page .ensures in
-    let none = none-applies (decodeControl s) (duplicate (x .a) (x .b)) _ fits refl refl (unequal from (c .before .before .before .before .before .before .before .before .before .before .before .before .before .before .before .before .if2 .left)) in
+    let none = by-asks (decodeControl s) (duplicate (x .a) (x .b)) _ fits (bank-open (decodeControl s) (x .a) (unequal from (c .before .before .before .before .before .before .before .before .before .before .before .before .before .before .before .before .if2 .left))) in
     let r = row-duplicate x (entry past .pre .3) in
-    let start = held-of s (λ a. omega (arith, past .before .before .before .before .slice-known .given a)) (entry past .pre .1) in
-    let held = held-page start (x .a) (x .b) (range past .0) (page-small past) in (
+    let start = stores-of s (λ a. omega (arith, past .before .before .before .before .slice-known .given a)) (entry past .pre .1) in
+    let held = stores-page start (x .a) (x .b) (range past .0) (page-small past) in (
       c .before .before .done .ensures .0 ∙ done-answer s x (duplicate (x .a) (x .b)) _ r none,
-      c .before .before .done .ensures .1 ∙ ap further (c .before .before .before .before .before .before .put-page .ensures) ∙ counts held ∙ done-block s x (duplicate (x .a) (x .b)) _ r none _,
+      c .before .before .done .ensures .1 ∙ ap tickedIn (c .before .before .before .before .before .before .put-page .ensures) ∙ ticks held ∙ done-block s x (duplicate (x .a) (x .b)) _ r none _,
       c .before .before .before .before .before .before .before .before .before .before .copy-page-in .ensures
           ∙ ap₂ (λ (P from : ℕ). copied (place P (x .a) from) (place P (x .a) (x .b)) (now (entry past .args .memory))) (c .before .before .before .before .before .before .before .before .before .before .before .before .before .before .pages .ensures) from
           ∙ done-memory s x (duplicate (x .a) (x .b)) _ r none _,

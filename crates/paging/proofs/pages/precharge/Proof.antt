@@ -7,15 +7,15 @@ use denote.Ref.{now}
 use borrow.Author.Tests.{ltb-true}
 use borrow.Author.Needs.{needs}
 use Rattle.numbers.proofs.Tests.{and-left, test-holds, test-fails}
-use Rattle.chip.specs.Refusals.{badBits, onOpen, onClosed}
-use Rattle.chip.specs.Answers.{refusalOf, answer}
-use Rattle.chip.specs.Steps.{control-after, pixels-after}
+use Rattle.numbers.specs.Numbers.{first}
+use Rattle.chip.specs.Refusals.{asks}
+use Rattle.chip.specs.Answers.{refusalOf}
+use Rattle.chip.specs.Effects.{effect, pixelsAfter}
 use Rattle.chip.specs.Operations.{precharge, inRange}
 use Rattle.chip.specs.State.{closed}
-use Rattle.block.specs.Block.{decodeControl}
-use Rattle.block.proofs.Held.{held-of, held-page}
-use Rattle.own.proofs.Changes.{further, counts}
-use Rattle.own.proofs.Owns.{outside, none-applies, refused, done-answer, done-block}
+use Rattle.block.specs.Block.{decodeControl, tickedIn}
+use Rattle.block.proofs.Puts.{stores-of, stores-page, ticks}
+use Rattle.own.proofs.Owns.{outside, by-asks, refused, done-answer, done-block}
 use Rattle.own.proofs.Lines.{row-precharge}
 use Rattle.paging.proofs.pages.precharge.Statement.{statement}
 use Rattle.paging.proofs.pages.precharge.Tie as tie
@@ -41,18 +41,18 @@ put-page-requires : tie.Need-put-page-requires
 put-page-requires c κs = (entry (c .before) .pre .0, bank-there (c .before))
 
 returns-2 : tie.Need-returns-2
-unfolding inRange badBits onOpen onClosed answer control-after pixels-after closed
+unfolding inRange asks first effect pixelsAfter closed
 returns-2 c =
     let past = c .before .before .before .before .before .before .before .before in
     let s = now (entry past .args .s) in
     let x = entry past .args .x in
     let fits = test-holds (past .before .bank-fits .ensures) (past .if1 .left) in
-    let none = none-applies (decodeControl s) (precharge (x .a)) _ fits refl refl refl in
+    let none = by-asks (decodeControl s) (precharge (x .a)) _ fits refl in
     let r = row-precharge x (entry past .pre .2) in
-    let start = held-of s (λ a. omega (arith, past .before .before .slice-known .given a)) (entry past .pre .1) in
-    let held = held-page start (x .a) 65535 (bank-there past) (lit< tt) in (
+    let start = stores-of s (λ a. omega (arith, past .before .before .slice-known .given a)) (entry past .pre .1) in
+    let held = stores-page start (x .a) 65535 (bank-there past) (lit< tt) in (
       c .before .before .done .ensures .0 ∙ done-answer s x (precharge (x .a)) _ r none,
-      λ memory. c .before .before .done .ensures .1 ∙ ap further (c .before .before .before .before .before .before .put-page .ensures) ∙ counts held ∙ done-block s x (precharge (x .a)) _ r none memory,
+      λ memory. c .before .before .done .ensures .1 ∙ ap tickedIn (c .before .before .before .before .before .before .put-page .ensures) ∙ ticks held ∙ done-block s x (precharge (x .a)) _ r none memory,
     )
 
 pub precharge-spec : {M : Type 1} → statement M

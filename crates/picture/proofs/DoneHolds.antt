@@ -1,8 +1,8 @@
--- A call that is done and keeps to the premises keeps `Holds`: what it does to bytes is what `Holds` has a law for. And what it reads is one word in
--- the slots and in the picture. Assumes nothing.
+-- A call that is done and keeps to the premises keeps `Holds`: its move is one that `Holds` has a law for. And what it reads is the same in the slots
+-- and in the picture. Assumes nothing.
 use mathlib.Core.Path.{_≡_, refl, sym, subst}
 use mathlib.Core.Bool.{Bool, true, false, cond}
-use mathlib.Core.List.{List}
+use mathlib.Core.List.{List, []}
 use Prim.Native.Nat.{ℕ, _+_, _-_, _*_, _^_, _≤_, _<_}
 use native.Mathlib.Omega.{arith}
 use native.Mathlib.Decide.{ℕ-discrete}
@@ -10,10 +10,11 @@ use lib.ListN.{getD}
 use lib.Seq.{getD-set-other, set-getD}
 use lib.Dec.{leb}
 use borrow.Author.Tests.{leb-true}
-use Rattle.bits.specs.Bits.{bit, byte}
+use Rattle.bits.specs.Bits.{bit, byte, wordIn}
 use Rattle.bits.proofs.Bytes.{word-same}
 use Rattle.bits.proofs.Merges.{merge-off, merge-again, byte-merge-lt}
-use Rattle.numbers.proofs.Tests.{and-left}
+use Rattle.numbers.specs.Numbers.{first}
+use Rattle.numbers.proofs.Tests.{none-applies, and-left}
 use Rattle.bank.specs.Work.{inSlot, loaded, backByte, backMask, writtenBack, copied}
 use Rattle.bank.proofs.Backs.{back-leaves, back-settles}
 use Rattle.chip.specs.declared.Control.{Control}
@@ -25,18 +26,19 @@ use Rattle.chip.specs.Operations.{Operation, access, precharge, duplicate, read
 use Rattle.pixel.proofs.Outcomes.{into-word-lt}
 use Rattle.pixel.specs.Writes.{used, intoSlot, intoWord, taken, result, newByte}
 use Rattle.chip.specs.Painting.{painted, tagWith}
-use Rattle.chip.specs.Steps.{withTag, withRegister, counted, tagOf, control-after, pixels-after, memory-after, slotByte, oldWord}
-use Rattle.chip.specs.Refusals.{onClosed}
+use Rattle.chip.specs.Changes.{withTag, withRegister, ticked, tagOf}
+use Rattle.chip.specs.Effects.{Reading, nothingRead, reading, slotByte, copy, load, paint, effect, pixelsAfter, memoryAfter}
+use Rattle.chip.specs.Refusals.{asks}
 use Rattle.chip.specs.Calls.{readIn}
 use Rattle.chip.proofs.Accepted.{page-range, block-range, word-range, write-range, open-below}
 use Rattle.picture.specs.Book.{Stand, at, Book, stands, note}
-use Rattle.picture.specs.Flat.{home, pictureByte, picture-after}
+use Rattle.picture.specs.Flat.{home, pictureByte, pictureAfter}
 use Rattle.picture.specs.Premises.{Keeps}
 use Rattle.picture.proofs.Holds.{Holds, UnderMask, plane-holds}
-use Rattle.picture.proofs.Writes.{write-tags, write-pixels, write-picture, write-book, write-holds}
-use Rattle.picture.proofs.Loads.{load-tags, load-pixels, load-book, load-holds}
-use Rattle.picture.proofs.Backs.{back-memory, back-book, back-holds}
-use Rattle.picture.proofs.Copies.{over, copy-holds}
+use Rattle.picture.proofs.WriteHolds.{write-tags, write-pixels, write-picture, write-book, write-holds}
+use Rattle.picture.proofs.LoadHolds.{load-tags, load-pixels, load-book, load-holds}
+use Rattle.picture.proofs.BackHolds.{back-memory, back-book, back-holds}
+use Rattle.picture.proofs.CopyHolds.{over, copy-holds}
 
 -- `Holds` of a chip with n slots and this control part, its pixels, memory and book, and the picture
 abbrev pub HoldsIn : ℕ → Control → List ℕ → List ℕ → Book → List ℕ → Type 0
@@ -47,45 +49,44 @@ module _ (n : ℕ) (c : Control) (p m : List ℕ) (g : Book) (l : List ℕ) (h :
   unfolding pictureByte slotByte home inSlot
   byte-same s b q k i e hi = rw e (sym (h .slots s b q k i e hi))
 
-  -- both read one word
-  old-same : (o : Operation) → inRange n (c .pages) o ≡ true → Keeps n c g o → oldWord (pictureByte (c .pages) g l) o ≡ oldWord (slotByte p) o
-  unfolding oldWord inRange Keeps
-  old-same (access b q) r y = refl
-  old-same (precharge b) r y = refl
-  old-same (duplicate b q) r y = refl
-  old-same (readBlock b k s) r y = refl
-  old-same (writeBlock m b k s) r y = refl
-  old-same (dataRead s w) r (b, q, k, e) =
-      let hw = word-range n (c .pages) s w r .1 in
-      word-same _ _ w (λ j hj. byte-same s b q k (4 * w + j) e (omega arith))
-  old-same (dataWrite w) r ((b, q, k, e), y, z, v) =
-      let hw = write-range n (c .pages) w r .1 in
-      word-same _ _ (w .word) (λ j hj. byte-same (w .slot) b q k (4 * w .word + j) e (omega arith))
-  old-same (writeTag m s x) r y = refl
-  old-same (writeRegister a v) r y = refl
-  old-same (readRegister a) r y = refl
-  old-same unknown r y = refl
+  word-read : (s w b q k : ℕ) → stands g s ≡ at b q k → w < 8 → wordIn (pictureByte (c .pages) g l s) w ≡ wordIn (slotByte p s) w
+  word-read s w b q k e hw = word-same _ _ w (λ j hj. byte-same s b q k (4 * w + j) e (omega arith))
+
+  -- both read the same
+  reading-same : (o : Operation) → inRange n (c .pages) o ≡ true → Keeps n c g o → reading (pictureByte (c .pages) g l) o ≡ reading (slotByte p) o
+  unfolding reading inRange Keeps
+  reading-same (access b q) r y = refl
+  reading-same (precharge b) r y = refl
+  reading-same (duplicate b q) r y = refl
+  reading-same (readBlock b k s) r y = refl
+  reading-same (writeBlock m b k s) r y = refl
+  reading-same (dataRead s w) r (b, q, k, e) = rw (word-read s w b q k e (word-range n (c .pages) s w r .1))
+  reading-same (dataWrite w) r ((b, q, k, e), y, z, v) = rw (word-read (w .slot) (w .word) b q k e (write-range n (c .pages) w r .1))
+  reading-same (writeTag m s x) r y = refl
+  reading-same (writeRegister a v) r y = refl
+  reading-same (readRegister a) r y = refl
+  reading-same unknown r y = refl
 
   pub read-same : (x : Call) → inRange n (c .pages) (operation x) ≡ true → Keeps n c g (operation x)
-      → oldWord (pictureByte (c .pages) g l) (operation x) ≡ readIn p x
+      → reading (pictureByte (c .pages) g l) (operation x) ≡ readIn p x
   unfolding readIn
-  read-same x r y = old-same (operation x) r y
+  read-same x r y = reading-same (operation x) r y
 
   -- ---- what each call does to bytes is what `Holds` has a law for
 
   copy-call : (b q : ℕ) → b < 4 → q < c .pages → openPage (c .banks) b < c .pages → Keeps n c g (duplicate b q)
-      → HoldsIn n c p (memory-after c p m (duplicate b q)) g (picture-after n c g l (duplicate b q) 0)
-  unfolding memory-after picture-after copied over Keeps
+      → HoldsIn n c p (memoryAfter c p m (copy b (openPage (c .banks) b) q)) g (pictureAfter c g l (copy b (openPage (c .banks) b) q))
+  unfolding memoryAfter pictureAfter copied over Keeps
   copy-call b q hb hq ho (from, to) = copy-holds h b (openPage (c .banks) b) q hb ho hq (λ s k. (from s k, to s k))
 
   load-call : (b k s : ℕ) → b < 4 → k < 40 → s < n → openPage (c .banks) b < c .pages → Keeps n c g (readBlock b k s)
-      → HoldsIn n (withTag c s 0) (pixels-after n c p m (readBlock b k s) 0) m (note n c g (readBlock b k s) 0) l
-  unfolding pixels-after note loaded inSlot load-tags load-pixels load-book Keeps
+      → HoldsIn n (withTag c s 0) (pixelsAfter c p m (load b (openPage (c .banks) b) k s)) m (note n c g (readBlock b k s) nothingRead) l
+  unfolding pixelsAfter note loaded inSlot load-tags load-pixels load-book Keeps
   load-call b k s hb hk hs ho (idle, apart) = load-holds h s b (openPage (c .banks) b) k hs hb ho hk idle apart
 
   back-call : (masked : Bool) (b k s : ℕ) → Keeps n c g (writeBlock masked b k s)
-      → HoldsIn n c p (memory-after c p m (writeBlock masked b k s)) (note n c g (writeBlock masked b k s) 0) l
-  unfolding memory-after note writtenBack slotByte inSlot tagOf back-memory back-book Keeps
+      → HoldsIn n c p (memoryAfter c p m (effect n c (writeBlock masked b k s) nothingRead .move)) (note n c g (writeBlock masked b k s) nothingRead) l
+  unfolding effect memoryAfter note writtenBack slotByte inSlot tagOf back-memory back-book Keeps
   back-call masked b k s own =
       let plane = planeMask (c .registers) in
       let tag = getD (c .tags) s 0 in
@@ -118,24 +119,25 @@ module _ (n : ℕ) (c : Control) (p m : List ℕ) (g : Book) (l : List ℕ) (h :
       rw (plane-used w q) (merge-again (bit (taken (c .registers) w old) j) (byte (planeMask (c .registers)) j) was x (byte (result (c .registers) w old) j) z)
 
   -- what holds after a write, where it is initial or not and its destination slot stands so
-  abbrev AfterWrite : Write → ℕ → Bool → Stand → Type 0
-  AfterWrite w old initial stand =
+  abbrev AfterWrite : Write → Reading → Bool → Stand → Type 0
+  AfterWrite w r initial stand =
       let slot = intoSlot n (c .registers) w in
-      HoldsIn n (withTag c slot (tagWith (c .registers) w old (cond initial 0 (tagOf c slot)))) (pixels-after n c p m (dataWrite w) old) m
-      (note n c g (dataWrite w) old) (painted (c .registers) w old (home (c .pages) stand) l)
+      HoldsIn n (withTag c slot (tagWith (c .registers) w (r .old) (cond initial 0 (tagOf c slot)))) (pixelsAfter c p m (paint w slot (r .old))) m
+      (note n c g (dataWrite w) r) (painted (c .registers) w (r .old) (home (c .pages) stand) l)
 
-  write-call : (w : Write) (old : ℕ) → w .word < 8 → Keeps n c g (dataWrite w)
-      → HoldsIn n (control-after n c (dataWrite w) old) (pixels-after n c p m (dataWrite w) old) m (note n c g (dataWrite w) old)
-      (picture-after n c g l (dataWrite w) old)
-  unfolding control-after pixels-after note picture-after painted tagWith tagOf inSlot write-tags write-pixels write-picture write-book Keeps home
-  write-call w old hw (from, (b, q, k, into), full, normal) =
+  write-call : (w : Write) (r : Reading) → w .word < 8 → Keeps n c g (dataWrite w)
+      → let v = paint w (intoSlot n (c .registers) w) (r .old) in
+      HoldsIn n (effect n c (dataWrite w) r .control) (pixelsAfter c p m v) m (note n c g (dataWrite w) r) (pictureAfter c g l v)
+  unfolding effect pixelsAfter note pictureAfter painted tagWith tagOf inSlot write-tags write-pixels write-picture write-book Keeps home
+  write-call w r hw (from, (b, q, k, into), full, normal) =
       let slot = intoSlot n (c .registers) w in
-      let drawn : AfterWrite w old false (at b q k) =
+      let old = r .old in
+      let drawn : AfterWrite w r false (at b q k) =
       write-holds h slot b q k (intoWord (c .registers) w) (taken (c .registers) w old) (newByte (c .registers) w old) into
       (into-word-lt (c .registers) w hw) (new-skips w old) (new-fits w old) (new-keeps w old full) in
-      let there : AfterWrite w old false (stands g slot) = subst (AfterWrite w old false) (sym into) drawn in
+      let there : AfterWrite w r false (stands g slot) = subst (AfterWrite w r false) (sym into) drawn in
       -- (not `rw normal`, which would write `w` out as a record and put `false` for its field everywhere)
-      subst (λ (initial : Bool). AfterWrite w old initial (stands g slot)) (sym normal) there
+      subst (λ (initial : Bool). AfterWrite w r initial (stands g slot)) (sym normal) there
 
   -- a register is written: the plane mask stays, or no byte waits
   register-call : (a v : ℕ) → 1 ≤ a → Keeps n c g (writeRegister a v)
@@ -148,21 +150,22 @@ module _ (n : ℕ) (c : Control) (p m : List ℕ) (g : Book) (l : List ℕ) (h :
       go (yes q) (no f) = plane-holds h (idle q f) _
       go (no f) z = rw (getD-set-other (c .registers) (a - 1) 0 _ 0 (omega arith)) h
 
-  pub done-holds : (o : Operation) (old : ℕ) → wellFormed c ≡ true → inRange n (c .pages) o ≡ true → onClosed (c .banks) o ≡ false → Keeps n c g o
-      → HoldsIn n (counted (control-after n c o old)) (pixels-after n c p m o old) (memory-after c p m o) (note n c g o old) (picture-after n c g l o old)
-  unfolding counted control-after pixels-after memory-after note picture-after inRange onClosed withRegister
-  done-holds (access b q) old formed range shut keeps = h
-  done-holds (precharge b) old formed range shut keeps = h
-  done-holds (duplicate b q) old formed range shut keeps =
+  pub done-holds : (o : Operation) (r : Reading) → wellFormed c ≡ true → inRange n (c .pages) o ≡ true → first (asks c o) ≡ 0 → Keeps n c g o
+      → let e = effect n c o r in
+      HoldsIn n (ticked (e .control)) (pixelsAfter c p m (e .move)) (memoryAfter c p m (e .move)) (note n c g o r) (pictureAfter c g l (e .move))
+  unfolding ticked effect pixelsAfter memoryAfter note pictureAfter inRange asks withRegister
+  done-holds (access b q) r formed range met keeps = h
+  done-holds (precharge b) r formed range met keeps = h
+  done-holds (duplicate b q) r formed range met keeps =
       let u = page-range n (c .pages) b q range in
-      copy-call b q (u .0) (u .1) (open-below c formed b (u .0) shut) keeps
-  done-holds (readBlock b k s) old formed range shut keeps =
+      copy-call b q (u .0) (u .1) (open-below c formed b (u .0) (none-applies 6 _ [] met .0)) keeps
+  done-holds (readBlock b k s) r formed range met keeps =
       let u = block-range n (c .pages) b k s range in
-      load-call b k s (u .0) (u .1) (u .2) (open-below c formed b (u .0) shut) keeps
-  done-holds (writeBlock masked b k s) old formed range shut keeps = back-call masked b k s keeps
-  done-holds (dataRead s w) old formed range shut keeps = h
-  done-holds (dataWrite w) old formed range shut keeps = write-call w old (write-range n (c .pages) w range .1) keeps
-  done-holds (writeTag replace s x) old formed range shut keeps = absurd (unfold Keeps in keeps)
-  done-holds (writeRegister a v) old formed range shut keeps = register-call a v (leb-true 1 a (and-left (leb 1 a) (leb a 7) range)) keeps
-  done-holds (readRegister a) old formed range shut keeps = h
-  done-holds unknown old formed range shut keeps = h
+      load-call b k s (u .0) (u .1) (u .2) (open-below c formed b (u .0) (none-applies 6 _ [] met .0)) keeps
+  done-holds (writeBlock masked b k s) r formed range met keeps = back-call masked b k s keeps
+  done-holds (dataRead s w) r formed range met keeps = h
+  done-holds (dataWrite w) r formed range met keeps = write-call w r (write-range n (c .pages) w range .1) keeps
+  done-holds (writeTag replace s x) r formed range met keeps = absurd (unfold Keeps in keeps)
+  done-holds (writeRegister a v) r formed range met keeps = register-call a v (leb-true 1 a (and-left (leb 1 a) (leb a 7) range)) keeps
+  done-holds (readRegister a) r formed range met keeps = h
+  done-holds unknown r formed range met keeps = h

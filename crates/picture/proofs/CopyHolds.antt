@@ -1,4 +1,4 @@
--- A page copied over another keeps `Holds`, where no slot stands for a block of either. Assumes nothing.
+-- A page copied over another keeps `Holds`, where no slot stands for a block of either: no byte of a standing block lies in them. Assumes nothing.
 use mathlib.Core.Path.{_≡_, sym, _∙_}
 use mathlib.Core.Logic.{_≢_}
 use mathlib.Core.List.{List}
@@ -36,8 +36,8 @@ module _ {P n plane : ℕ} {tags pixels memory picture : List ℕ} {g : Book} (h
       let r = place-inj P b' p' (inPage k' i) b to' j (u .1) ht' (inPage-lt k' i (u .2) hi) hj q in
       none' k' (rw (← (r .0), ← (r .1)) e)
 
-  kept : (l : List ℕ) (s b' p' k' i : ℕ) → stands g s ≡ at b' p' k' → i < 32 → getD (over l) (address P b' p' k' i) 0 ≡ getD l (address P b' p' k' i) 0
-  kept l s b' p' k' i e hi =
+  block-same : (l : List ℕ) (s b' p' k' i : ℕ) → stands g s ≡ at b' p' k' → i < 32 → getD (over l) (address P b' p' k' i) 0 ≡ getD l (address P b' p' k' i) 0
+  block-same l s b' p' k' i e hi =
       over-other l (address P b' p' k' i) (λ j hj. outside s b' p' k' i to j ht (λ k. clear s k .1) e hi hj)
 
   pub copy-holds : Holds P n plane tags pixels (over memory) (over picture) g
@@ -50,11 +50,11 @@ module _ {P n plane : ℕ} {tags pixels memory picture : List ℕ} {g : Book} (h
     wait-length = h .wait-length;
     inside = h .inside;
     alone = h .alone;
-    slots = λ s b' p' k' i e hi. rw (kept picture s b' p' k' i e hi) (h .slots s b' p' k' i e hi);
+    slots = λ s b' p' k' i e hi. rw (block-same picture s b' p' k' i e hi) (h .slots s b' p' k' i e hi);
     tagged = h .tagged;
     bytes = unfold over in (update-all (λ x. x < 2 ^ 8) 1280 (place P b to) (λ j was. getD picture (place P b from j) 0) picture (λ j x hj q. h .bytes _) (h .bytes));
     rest = λ a free. rest' a free (find 1280 (place P b to) a);
-    held = λ s b' p' k' i e hi. rw (kept picture s b' p' k' i e hi, kept memory s b' p' k' i e hi) (h .held s b' p' k' i e hi);
+    held = λ s b' p' k' i e hi. rw (block-same picture s b' p' k' i e hi, block-same memory s b' p' k' i e hi) (h .held s b' p' k' i e hi);
   }
     where
       rest' : (a : ℕ) → Free P g a → Dec ((j : ℕ) × (j < 1280) × (a ≡ place P b to j)) → getD (over memory) a 0 ≡ getD (over picture) a 0

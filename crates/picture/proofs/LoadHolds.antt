@@ -1,4 +1,5 @@
--- A load keeps `Holds`: of a block that no other slot stands for, into a slot of which no byte waits. Assumes nothing.
+-- A load keeps `Holds`: of a block that no other slot stands for, into a slot of which no byte waits. By cases: this slot, or another that stands as
+-- it stood. Assumes nothing.
 use mathlib.Core.Path.{_≡_, sym, _∙_}
 use mathlib.Core.Logic.{_≢_, _⊎_, inl, inr}
 use mathlib.Core.Bool.{true}

@@ -1,4 +1,4 @@
--- The premises of a call as a test that computes, and that the test is right. Assumes nothing.
+-- The premises of a call as a test that computes, and that the test is right, line by line of `Keeps`. Assumes nothing.
 use mathlib.Core.Path.{_≡_, refl, sym, _∙_}
 use mathlib.Core.Logic.{_≢_}
 use mathlib.Core.Bool.{Bool, true, false, not, _&&_, _||_, false≢true}

@@ -1,0 +1,141 @@
+-- 01, Calls: what each call that is done reads, answers, leaves and moves: one definition for the chip and the flat picture. Assumes nothing.
+use mathlib.Core.Bool.{Bool, false, cond, _&&_, _||_}
+use mathlib.Core.List.{List}
+use Prim.Native.Nat.{ℕ}
+use lib.Bits.{bitOr}
+use lib.ListN.{getD}
+use Rattle.bits.specs.Bits.{wordIn}
+use Rattle.layout.specs.Memory.{place, address}
+use Rattle.bank.specs.Work.{inSlot, loaded, backMask, writtenBack, tagged, copied}
+use Rattle.pixel.specs.declared.Write.{Write}
+use Rattle.pixel.specs.Registers.{register, planeMask}
+use Rattle.pixel.specs.Writes.{intoSlot, passOut, enabled, hits}
+use Rattle.chip.specs.declared.Control.{Control}
+use Rattle.chip.specs.State.{closed, openPage}
+use Rattle.chip.specs.Operations.{Operation, access, precharge, duplicate, readBlock, writeBlock, dataRead, dataWrite, writeTag, writeRegister, readRegister, unknown}
+use Rattle.chip.specs.Painting.{painted, tagWith}
+use Rattle.chip.specs.Changes.{withPage, withTag, withHit, withRegister, tagOf}
+
+-- ---- what a call reads of the bytes
+
+-- 01, Data write: OLD is the word at (slot, word)
+pub record Reading : Type 0 where
+  pub old : ℕ
+
+-- 01, Calls: no word is read
+abbrev pub nothingRead : Reading
+nothingRead = record { old = 0 }
+
+-- 01, Calls: data read and data write read a word, where byte i of a slot is `byteOf slot i`
+unfoldable pub reading : (ℕ → ℕ → ℕ) → Operation → Reading
+reading byteOf (access bank page) = nothingRead
+reading byteOf (precharge bank) = nothingRead
+reading byteOf (duplicate bank page) = nothingRead
+reading byteOf (readBlock bank block slot) = nothingRead
+reading byteOf (writeBlock masked bank block slot) = nothingRead
+reading byteOf (dataRead slot word) = record { old = wordIn (byteOf slot) word }
+reading byteOf (dataWrite w) = record { old = wordIn (byteOf (w .slot)) (w .word) }
+reading byteOf (writeTag replace slot tag) = nothingRead
+reading byteOf (writeRegister number value) = nothingRead
+reading byteOf (readRegister number) = nothingRead
+reading byteOf unknown = nothingRead
+
+-- 01, Chip state: byte i of a slot, in the pixel buffer
+unfoldable pub slotByte : List ℕ → ℕ → ℕ → ℕ
+slotByte pixels slot i = getD pixels (inSlot slot i) 0
+
+-- ---- what a call does
+
+-- 01, Calls: which bytes a call moves
+pub data Move : Type 0 where
+  -- none
+  still : Move
+  -- a page over another
+  copy : (bank from to : ℕ) → Move
+  -- a block into a slot
+  load : (bank page block slot : ℕ) → Move
+  -- a slot into a block, under a mask, obeying a tag
+  back : (bank page block slot mask tag : ℕ) → Move
+  -- a data write into its destination slot
+  paint : (w : Write) (slot old : ℕ) → Move
+
+-- 01, Calls and Numbers: a call's value, pass and written, the control part that it leaves (but for the counter), and what it moves
+pub record Effect : Type 0 where
+  pub value : ℕ
+  pub pass : Bool
+  pub written : Bool
+  pub control : Control
+  pub move : Move
+
+-- 01, Numbers: pass and written are 0 except for data writes
+abbrev pub giving : ℕ → Control → Move → Effect
+giving value c move = record { value = value; pass = false; written = false; control = c; move = move }
+
+-- 01, Numbers: a value is 0 except for ops 5, 6, 7, 15
+abbrev pub leaving : Control → Move → Effect
+leaving c move = giving 0 c move
+
+-- 01, Data write: an initial write first clears the destination slot's tag, enabled or not; if picking is on, an enabled stateful write sets hit
+abbrev pub afterWrite : Control → Write → ℕ → ℕ → Control
+afterWrite c w slot old =
+    let tag = cond (w .initial) 0 (tagOf c slot) in
+    withHit (withTag c slot (tagWith (c .registers) w old tag)) (c .hit || (c .picking && hits (c .registers) w old))
+
+-- 01, Numbers: written is 1 exactly when the write is enabled, byte enables or not
+abbrev pub writing : Control → Write → ℕ → ℕ → Effect
+writing c w slot old = record {
+  value = 0;
+  pass = passOut (c .registers) w old;
+  written = enabled (c .registers) w old;
+  control = afterWrite c w slot old;
+  move = paint w slot old;
+}
+
+-- 01, Calls: what each call does, with n slots, where it reads r
+unfoldable pub effect : ℕ → Control → Operation → Reading → Effect
+-- access opens a closed bank
+effect n c (access bank page) r = leaving (withPage c bank page) still
+-- precharge closes; on a closed bank it changes only the counter
+effect n c (precharge bank) r = leaving (withPage c bank closed) still
+-- duplicate copies the open page over the named page, which becomes the open one; naming the open page copies nothing (law `copy-nothing`)
+effect n c (duplicate bank page) r = leaving (withPage c bank page) (copy bank (openPage (c .banks) bank) page)
+-- read block fills the slot and clears its tag
+effect n c (readBlock bank block slot) r = leaving (withTag c slot 0) (load bank (openPage (c .banks) bank) block slot)
+-- write block: the bits under the plane mask, or unmasked all; neither changes slot or tag; the value is the number of tagged bytes
+effect n c (writeBlock masked bank block slot) r =
+    giving (tagged (tagOf c slot)) c (back bank (openPage (c .banks) bank) block slot (backMask masked (planeMask (c .registers))) (tagOf c slot))
+-- data read: the value is the word
+effect n c (dataRead slot word) r = giving (r .old) c still
+-- data write: into the destination slot
+effect n c (dataWrite w) r = writing c w (intoSlot n (c .registers) w) (r .old)
+-- replace, OR tag
+effect n c (writeTag replace slot tag) r = leaving (withTag c slot (cond replace tag (bitOr (tagOf c slot) tag))) still
+-- write register
+effect n c (writeRegister number value) r = leaving (withRegister c number value) still
+-- read register: the value is the register's
+effect n c (readRegister number) r = giving (register (c .registers) number) c still
+-- no operation has the number
+effect n c unknown r = leaving c still
+
+-- ---- what its move does to the bytes, where c is the control part before the call
+
+-- 01, Calls and Data write: the pixel buffer
+unfoldable pub pixelsAfter : Control → List ℕ → List ℕ → Move → List ℕ
+pixelsAfter c pixels memory still = pixels
+pixelsAfter c pixels memory (copy bank from to) = pixels
+-- read block fills the slot
+pixelsAfter c pixels memory (load bank page block slot) = loaded (address (c .pages) bank page block) slot memory pixels
+pixelsAfter c pixels memory (back bank page block slot mask tag) = pixels
+-- data write: into the destination slot
+pixelsAfter c pixels memory (paint w slot old) = painted (c .registers) w old (inSlot slot) pixels
+
+-- 01, Calls: memory
+unfoldable pub memoryAfter : Control → List ℕ → List ℕ → Move → List ℕ
+memoryAfter c pixels memory still = memory
+-- duplicate copies a page over another
+memoryAfter c pixels memory (copy bank from to) = copied (place (c .pages) bank from) (place (c .pages) bank to) memory
+memoryAfter c pixels memory (load bank page block slot) = memory
+-- write block changes, in each tagged byte, the bits under the mask
+memoryAfter c pixels memory (back bank page block slot mask tag) =
+    writtenBack (address (c .pages) bank page block) mask tag (slotByte pixels slot) memory
+memoryAfter c pixels memory (paint w slot old) = memory
