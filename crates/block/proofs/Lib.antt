@@ -2,4 +2,4 @@ pub mod Sized
 pub mod Parts
 pub mod RoundTrip
 pub mod Puts
-pub mod Forms
+pub mod HeaderForm

@@ -1,14 +1,14 @@
 -- The block's parts in a row: where each starts, and what is put in one changes that one alone. Offsets are tied to the parts here, once. Assumes nothing.
-use mathlib.Core.Path.{_≡_, refl, sym, ap, _∙_}
-use mathlib.Core.Bool.{Bool, true, false}
-use mathlib.Core.List.{List, [], _∷_, flatten}
+use mathlib.Core.Path.{_≡_, refl, ap, _∙_}
+use mathlib.Core.Bool.{Bool}
+use mathlib.Core.List.{[], _∷_, flatten}
 use Prim.Native.Nat.{ℕ, _+_, _-_, _*_, _%_, _^_, _<_, _≤_}
 use native.Mathlib.Omega.{arith}
 use lib.Dec.{lit<}
 use lib.ListN.{length, getD, set, drop, length-append}
 use Rattle.bits.specs.Bits.{digit}
 use Rattle.lists.specs.Update.{update}
-use Rattle.lists.specs.Words.{putHalf, putWord, halves, words}
+use Rattle.lists.specs.Words.{putHalf, putWord}
 use Rattle.lists.proofs.Seams.{startOf, put-in, start-long, split-at}
 use Rattle.lists.proofs.Rows.{length-row, half-put-in, word-put-in}
 use Rattle.chip.specs.declared.Control.{Control}

@@ -20,7 +20,7 @@ use Rattle.chip.specs.declared.Control.{Control}
 use Rattle.chip.specs.declared.Chip.{Chip}
 use Rattle.chip.specs.State.{wellFormed}
 use Rattle.block.specs.Block.{banksAt, registersAt, flagsAt, tagsAt, pixelsAt, pixelBytes, blockBytes, IsBlock, counterAt, header, flags, controlParts, parts, encode, decodeControl, pixelsIn, decode, same, wellFormedBlock}
-use Rattle.block.proofs.Sized.{Listed, Sized}
+use Rattle.block.proofs.Sized.{Sized}
 use Rattle.block.proofs.Parts.{starts, length-encode}
 
 -- ---- the flags' word

@@ -1,10 +1,12 @@
 -- What every chip that code holds has: each array its length, and each number its width. Assumes nothing.
 use mathlib.Core.Path.{_≡_}
+use mathlib.Core.Bool.{Bool}
 use mathlib.Core.List.{List}
 use Prim.Native.Nat.{ℕ, _^_, _<_}
 use lib.ListN.{length, getD, set, length-set}
 use Rattle.lists.specs.Update.{update}
 use Rattle.lists.proofs.Updates.{update-all}
+use Rattle.chip.specs.declared.Control.{Control}
 use Rattle.chip.specs.declared.Chip.{Chip}
 use Rattle.block.specs.Block.{pixelBytes}
 
@@ -27,3 +29,21 @@ pub record Sized (chip : Chip) : Type 0 where
   pub counter-fits : chip .control .counter < 2 ^ 32
   pub tags : Listed 8 (2 ^ 32) (chip .control .tags)
   pub pixels-long : length (chip .pixels) ≡ pixelBytes
+
+-- a sized chip with other arrays, flags and counter is sized where these are
+pub resized : {c : Control} {pixels : List ℕ} → Sized (record { control = c; pixels = pixels })
+    → {banks registers tags pixels' : List ℕ} {picking hit : Bool} {counter : ℕ}
+    → Listed 4 (2 ^ 16) banks → Listed 7 (2 ^ 32) registers → counter < 2 ^ 32 → Listed 8 (2 ^ 32) tags → length pixels' ≡ pixelBytes
+    → Sized (record {
+      control = record {
+        pages = c .pages;
+        banks = banks;
+        registers = registers;
+        picking = picking;
+        hit = hit;
+        counter = counter;
+        tags = tags;
+      };
+      pixels = pixels';
+    })
+resized z b r k t p = record { pages-fit = z .pages-fit; banks = b; registers = r; counter-fits = k; tags = t; pixels-long = p }

@@ -8,7 +8,7 @@ use native.Mathlib.Omega.{arith}
 use lib.Bits.{bitOr, or-lt}
 use lib.Pow.{pow-pos}
 use lib.Dec.{lit<}
-use lib.ListN.{getD, drop}
+use lib.ListN.{getD}
 use Rattle.bits.specs.Bits.{bit, wordIn}
 use Rattle.pixel.specs.declared.Write.{Write}
 use Rattle.pixel.specs.declared.Outcome.{Outcome}
@@ -34,7 +34,7 @@ use Rattle.block.specs.Block.{flagsAt, encode, decodeControl, wellFormedBlock, 
 use Rattle.block.proofs.Puts.{Stores, stores-of, stores-tag, stores-flags, stores-word, ticks, control-stored}
 use Rattle.lists.proofs.Rows.{words-lt}
 use Rattle.own.specs.Own.{hitMarked, settled}
-use Rattle.own.proofs.Lines.{asked}
+use Rattle.own.proofs.OwnLines.{asked}
 
 -- ---- the destination's word
 

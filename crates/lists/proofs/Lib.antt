@@ -2,4 +2,4 @@ pub mod Updates
 pub mod Words
 pub mod Seams
 pub mod Rows
-pub mod Stores
+pub mod RowStores

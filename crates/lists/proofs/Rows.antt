@@ -6,7 +6,7 @@ use Prim.Native.Nat.{ℕ, zero, suc, _+_, _*_, _^_, _<_, _≤_}
 use native.Mathlib.Omega.{arith}
 use native.Mathlib.Nat.{add-zero, zero-add, add-assoc, mul-suc, mul-le-mul-left}
 use lib.Dec.{lit<}
-use lib.ListN.{length, getD, set, take, drop, length-append, length-drop}
+use lib.ListN.{length, getD, set, take, drop, length-append}
 use lib.Seq.{getD-append-seam, getD-append-add, take-add, drop-drop, drop-cons, ext-getD}
 use Rattle.bits.specs.Bits.{byte}
 use Rattle.bits.proofs.Bytes.{join-bytes, byte-joined-0, byte-joined-1, byte-joined-2, byte-joined-3}

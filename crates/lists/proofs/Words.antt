@@ -63,41 +63,10 @@ word-part k n q s h = rw (in-part q (omega arith), in-part (q + 1) (omega arith)
     in-part : (i : ℕ) → i < n → getD (take n (drop k s)) i 0 ≡ getD (drop k s) i 0
     in-part i l = getD-take n (drop k s) i 0 l
 
--- ---- what is put is read
-
-module _ (p x : ℕ) (s : List ℕ) where
-  pub length-put-half : length (putHalf p x s) ≡ length s
-  unfolding putHalf
-  length-put-half = length-update 2 (λ n. p + n) (λ n was. byte x n) s
-
-  pub length-put-word : length (putWord p x s) ≡ length s
-  unfolding putWord
-  length-put-word = length-update 4 (λ n. p + n) (λ n was. byte x n) s
-
-  -- byte n of the m bytes put at p
-  byte-put : (m n : ℕ) → n < m → p + m ≤ length s → getD (update m (λ n. p + n) (λ n was. byte x n) s) (p + n) 0 ≡ byte x n
-  byte-put m n h fit = update-same m (λ n. p + n) (λ n was. byte x n) s (λ i j hi hj e. omega arith) (λ i hi. omega arith) n h
-
-  pub half-put-same : p + 1 < length s → x < 2 ^ 16 → halfAt (putHalf p x s) p ≡ x
-  unfolding halfAt putHalf
-  half-put-same fit h =
-      let first = rw (add-zero p) at (byte-put 2 0 (lit< tt) (omega arith)) in
-      rw (first, byte-put 2 1 (lit< tt) (omega arith)) (unfold byte in omega arith)
-
-  pub word-put-same : p + 3 < length s → x < 2 ^ 32 → wordAt (putWord p x s) p ≡ x
-  unfolding wordAt putWord
-  word-put-same fit h =
-      let first = rw (add-zero p) at (byte-put 4 0 (lit< tt) (omega arith)) in
-      rw (first, byte-put 4 1 (lit< tt) (omega arith), byte-put 4 2 (lit< tt) (omega arith), byte-put 4 3 (lit< tt) (omega arith)) (join-bytes x h)
-
-  -- bytes stay bytes
-  pub bytes-put-half : ((a : ℕ) → getD s a 0 < 2 ^ 8) → (a : ℕ) → getD (putHalf p x s) a 0 < 2 ^ 8
-  unfolding putHalf
-  bytes-put-half = update-all (λ y. y < 2 ^ 8) 2 (λ n. p + n) (λ n was. byte x n) s (λ n was hn h. byte-lt x n)
-
-  pub bytes-put-word : ((a : ℕ) → getD s a 0 < 2 ^ 8) → (a : ℕ) → getD (putWord p x s) a 0 < 2 ^ 8
-  unfolding putWord
-  bytes-put-word = update-all (λ y. y < 2 ^ 8) 4 (λ n. p + n) (λ n was. byte x n) s (λ n was hn h. byte-lt x n)
+-- a word put leaves the length
+pub length-put-word : (p x : ℕ) (s : List ℕ) → length (putWord p x s) ≡ length s
+unfolding putWord
+length-put-word p x s = length-update 4 (λ n. p + n) (λ n was. byte x n) s
 
 -- ---- a word put is four bytes updated
 

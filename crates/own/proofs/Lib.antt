@@ -1,4 +1,4 @@
-pub mod Lines
+pub mod OwnLines
 pub mod Owns
 pub mod Zeros
 pub mod WellFormed

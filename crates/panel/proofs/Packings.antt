@@ -24,7 +24,7 @@ use Rattle.chip.specs.State.{slots}
 use Rattle.chip.specs.Answers.{numberOf, packed, packedOf}
 use Rattle.chip.specs.Calls.{answeredOf}
 use Rattle.chip.proofs.NumbersGiven as numbers
-use Rattle.chip.proofs.Forms as forms
+use Rattle.chip.proofs.StateForms as forms
 use Rattle.block.specs.Block.{decodeControl, decode, wellFormedBlock}
 use Rattle.block.specs.OnBlock.{blockAnswer, blockLineNumber}
 use Rattle.own.proofs.WellFormed.{well-control}

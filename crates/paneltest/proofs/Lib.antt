@@ -1,3 +1,3 @@
 pub mod Prints
 pub mod Replies
-pub mod Runs
+pub mod SessionRuns

@@ -19,7 +19,7 @@ use Rattle.lines.specs.Printing.{printedLines, header, outputOf}
 use Rattle.lines.proofs.Whole.{bytes-append, bytes-begin, some-piece, read-whole}
 use Rattle.paneltest.specs.declared.session.Session.{Session}
 use Rattle.paneltest.specs.Session.{Run, joined, startRun, begun, lineRun, byteRun, ran, closeRun, ranAll}
-use Rattle.paneltest.proofs.Runs.{ran-append, close-line}
+use Rattle.paneltest.proofs.SessionRuns.{ran-append, close-line}
 
 -- ---- a line
 

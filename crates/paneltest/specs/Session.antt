@@ -13,7 +13,7 @@ use Rattle.lines.specs.Lines.{answerReply, noLineReply}
 use Rattle.lines.specs.Reading.{started, afterByte, ended}
 use Rattle.lines.specs.Printing.{printedLine, Stored}
 use Rattle.paneltest.specs.declared.session.Session.{Session}
-use Rattle.paneltest.specs.declared.session.Ran.{Ran}
+use Rattle.paneltest.specs.declared.session.Progress.{Progress}
 
 -- what a part of a run leaves: the session, memory, and what it printed
 pub record Run : Type 0 where
@@ -68,7 +68,7 @@ ranAll run (piece ∷ pieces) = ranAll (joined run (ran (startRun (run .session)
 
 -- ---- what a function leaves: its answer, memory and the output, as a run has them
 
-pub record Leaves (run : Run) (r : Ran) (memory : List ℕ) (at : ℕ) (before after : List ℕ) : Type 0 where
+pub record Leaves (run : Run) (r : Progress) (memory : List ℕ) (at : ℕ) (before after : List ℕ) : Type 0 where
   pub session : r .session ≡ run .session
   pub memory-left : memory ≡ run .memory
   pub output : Stored before at (run .printed) after (r .at)

@@ -15,7 +15,7 @@ pub struct Session {
 }
 
 // A session after some input, and the place after what was printed for it.
-pub struct Ran {
+pub struct Progress {
     pub session: Session,
     pub at: usize,
 }
@@ -31,7 +31,7 @@ pub fn begin() -> Session
 }
 
 // The end of a line: its call is made, and its answer printed.
-fn end_line(session: Session, memory: &mut [u8], output: &mut [u8], at: usize) -> Ran
+fn end_line(session: Session, memory: &mut [u8], output: &mut [u8], at: usize) -> Progress
     requires { ⌜ at + 44 ≤ length (now output) ⌝ }
     ensures { λ r. ⌜ Leaves (lineRun (ended (session .reader)) (session .chip) (now (memory .entry))) r (now (memory .exit)) at (now (output .entry)) (now (output .exit)) ⌝ }
 {
@@ -40,7 +40,7 @@ fn end_line(session: Session, memory: &mut [u8], output: &mut [u8], at: usize) -
     let parsed = lines::reader::finish(reader);
     let Parsed::Read(call) = parsed else {
         let next = lines::printer::put_line(output, at, 9, 0, 0, 0);
-        return Ran {
+        return Progress {
             session: Session {
                 chip: chip,
                 reader: lines::reader::start(),
@@ -52,7 +52,7 @@ fn end_line(session: Session, memory: &mut [u8], output: &mut [u8], at: usize) -
     let answer = answered.answer;
     let after = answered.chip;
     let next = reply::print(answer, output, at);
-    Ran {
+    Progress {
         session: Session {
             chip: after,
             reader: lines::reader::start(),
@@ -62,7 +62,13 @@ fn end_line(session: Session, memory: &mut [u8], output: &mut [u8], at: usize) -
 }
 
 // One byte of the input: byte 10 ends a line.
-fn take_byte(session: Session, memory: &mut [u8], byte: u8, output: &mut [u8], at: usize) -> Ran
+fn take_byte(
+    session: Session,
+    memory: &mut [u8],
+    byte: u8,
+    output: &mut [u8],
+    at: usize,
+) -> Progress
     requires { ⌜ at + 44 ≤ length (now output) ⌝ }
     ensures { λ r. ⌜ Leaves (byteRun session (now (memory .entry)) byte) r (now (memory .exit)) at (now (output .entry)) (now (output .exit)) ⌝ }
 {
@@ -71,7 +77,7 @@ fn take_byte(session: Session, memory: &mut [u8], byte: u8, output: &mut [u8], a
     }
     let chip = session.chip;
     let reader = session.reader;
-    Ran {
+    Progress {
         session: Session {
             chip: chip,
             reader: lines::reader::step(reader, byte),
@@ -81,11 +87,11 @@ fn take_byte(session: Session, memory: &mut [u8], byte: u8, output: &mut [u8], a
 }
 
 // A piece of the input. A byte gives at most one line, of at most 44 bytes.
-pub fn run(session: Session, memory: &mut [u8], input: &[u8], output: &mut [u8]) -> Ran
+pub fn run(session: Session, memory: &mut [u8], input: &[u8], output: &mut [u8]) -> Progress
     requires { ⌜ length (now input) * 44 ≤ length (now output) ⌝ }
     ensures { λ r. ⌜ Leaves (ran (startRun session (now (memory .entry))) (now (input .entry))) r (now (memory .exit)) 0 (now (output .entry)) (now (output .exit)) ⌝ }
 {
-    let mut here = Ran {
+    let mut here = Progress {
         session: session,
         at: 0,
     };
@@ -100,7 +106,7 @@ pub fn run(session: Session, memory: &mut [u8], input: &[u8], output: &mut [u8])
 }
 
 // The end of the input: a last line may lack byte 10.
-pub fn close(session: Session, memory: &mut [u8], output: &mut [u8]) -> Ran
+pub fn close(session: Session, memory: &mut [u8], output: &mut [u8]) -> Progress
     requires { ⌜ 44 ≤ length (now output) ⌝ }
     ensures { λ r. ⌜ Leaves (closeRun session (now (memory .entry))) r (now (memory .exit)) 0 (now (output .entry)) (now (output .exit)) ⌝ }
 {
@@ -108,7 +114,7 @@ pub fn close(session: Session, memory: &mut [u8], output: &mut [u8]) -> Ran
     if begun {
         return end_line(session, memory, output, 0);
     }
-    Ran {
+    Progress {
         session: session,
         at: 0,
     }

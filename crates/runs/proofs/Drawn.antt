@@ -13,7 +13,7 @@ use Rattle.picture.specs.Drawing.{World, Seen, seen, start, next, after, chipSe
 use Rattle.picture.specs.Samples.{panes, SettlesOver, ListingSettles, PanesSettle}
 use Rattle.picture.proofs.Agree.{start-holds, run-holds, drawing-agrees}
 use Rattle.picture.proofs.Samples.{listing-settles, panes-settle}
-use Rattle.runs.specs.Runs.{nextRan, ranFrom, ranOf, memoryAfter}
+use Rattle.runs.specs.Runs.{nextRan, ranFrom, ranOf, memoryLeft}
 use Rattle.runs.specs.Drawn.{seenOf, RunDraws, IsPicture, LeavesPicture, SamplesDrawn}
 
 -- ---- the chip's part of demand 3's run
@@ -24,8 +24,8 @@ unfolding ranFrom nextRan after next answeredOf memoryOf
 ran-after [] w refused = refl
 ran-after (x ∷ xs) w refused = ran-after xs (next slots w x) _
 
-left-after : (calls : List Call) (w : World) → memoryAfter (w .chip) (w .memory) calls ≡ after slots w calls .memory
-unfolding memoryAfter after next answeredOf memoryOf
+left-after : (calls : List Call) (w : World) → memoryLeft (w .chip) (w .memory) calls ≡ after slots w calls .memory
+unfolding memoryLeft after next answeredOf memoryOf
 left-after [] w = refl
 left-after (x ∷ xs) w = left-after xs (next slots w x)
 
@@ -49,7 +49,7 @@ run-draws P memory calls fit sized fair =
       λ none. left-after calls w ∙ agrees .1 none,
     )
 
-pub is-picture : (P : ℕ) (memory : List ℕ) (calls : List Call) (left : List ℕ) → Bytes memory → left ≡ memoryAfter (freshOf P) memory calls
+pub is-picture : (P : ℕ) (memory : List ℕ) (calls : List Call) (left : List ℕ) → Bytes memory → left ≡ memoryLeft (freshOf P) memory calls
     → IsPicture P memory calls left
 unfolding RunDraws IsPicture
 is-picture P memory calls left fit e sized supposed none = e ∙ run-draws P memory calls fit sized supposed .2 none

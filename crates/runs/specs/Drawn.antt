@@ -14,7 +14,7 @@ use Rattle.picture.specs.Book.{Book, NoneWaits}
 use Rattle.picture.specs.Flat.{Flat}
 use Rattle.picture.specs.Drawing.{Seen, seen, start, after, flatSeen, Fair, Bytes}
 use Rattle.picture.specs.Samples.{panes}
-use Rattle.runs.specs.Runs.{ranOf, memoryAfter}
+use Rattle.runs.specs.Runs.{ranOf, memoryLeft}
 
 -- what a caller is given for each call, and the hit flag after it
 unfoldable pub seenOf : Chip → List ℕ → List Call → List Seen
@@ -49,7 +49,7 @@ RunDraws = (P : ℕ) (memory : List ℕ) (calls : List Call)
     → (seenOf (freshOf P) memory calls ≡ seenFlat P memory calls)
     × (ranOf (freshOf P) memory calls .chip .control .hit ≡ flatAfter P memory calls .control .hit)
     -- "and once no bytes wait, memory is that picture in every byte"
-    × (NoneWaits (bookAfter P memory calls) → memoryAfter (freshOf P) memory calls ≡ flatAfter P memory calls .picture)
+    × (NoneWaits (bookAfter P memory calls) → memoryLeft (freshOf P) memory calls ≡ flatAfter P memory calls .picture)
 
 -- the demand's end for the memory that calls left: the lent memory is of bytes by its type, the rest is supposed
 unfoldable pub IsPicture : ℕ → List ℕ → List Call → List ℕ → Type 0
@@ -59,7 +59,7 @@ IsPicture P memory calls left =
 -- and for the lists of Samples.antt, which keep to the premises and end with no bytes waiting: nothing is left to suppose
 unfoldable pub LeavesPicture : ℕ → List Call → Type 0
 LeavesPicture P calls =
-    (memory : List ℕ) → Bytes memory → length memory ≡ size P → memoryAfter (freshOf P) memory calls ≡ flatAfter P memory calls .picture
+    (memory : List ℕ) → Bytes memory → length memory ≡ size P → memoryLeft (freshOf P) memory calls ≡ flatAfter P memory calls .picture
 
 unfoldable pub SamplesDrawn : Type 0
 SamplesDrawn = ((P : ℕ) → 1 ≤ P → P ≤ 257 → LeavesPicture P listing) × ((P : ℕ) → 2 ≤ P → P ≤ 257 → LeavesPicture P panes)

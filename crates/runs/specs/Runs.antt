@@ -51,6 +51,6 @@ ranFrom ran memory (x ∷ xs) = ranFrom (nextRan ran memory x) (memoryOf (ran .c
 unfoldable pub ranOf : Chip → List ℕ → List Call → Ran
 ranOf chip memory calls = ranFrom (record { chip = chip; refused = 0 }) memory calls
 
-unfoldable pub memoryAfter : Chip → List ℕ → List Call → List ℕ
-memoryAfter chip memory [] = memory
-memoryAfter chip memory (x ∷ xs) = memoryAfter (answeredOf chip memory x .chip) (memoryOf chip memory x) xs
+unfoldable pub memoryLeft : Chip → List ℕ → List Call → List ℕ
+memoryLeft chip memory [] = memory
+memoryLeft chip memory (x ∷ xs) = memoryLeft (answeredOf chip memory x .chip) (memoryOf chip memory x) xs

@@ -9,7 +9,7 @@ ghost use Prim.Native.Nat.{_+_, _^_, _<_, _≤_};
 ghost use lib.ListN.{length};
 ghost use Rattle.chip.specs.State.{freshOf};
 ghost use Rattle.chip.specs.Calls.{memoryOf};
-ghost use Rattle.runs.specs.Runs.{callAt, callsIn, nextRan, ranOf, memoryAfter};
+ghost use Rattle.runs.specs.Runs.{callAt, callsIn, nextRan, ranOf, memoryLeft};
 ghost use Rattle.runs.specs.Drawn.{IsPicture};
 
 // What a list of calls leaves, and how many of them were refused.
@@ -56,7 +56,7 @@ fn next(ran: Ran, memory: &mut [u8], call: Call) -> Ran
 
 // The calls, six numbers each, from the first to the last; fewer than six numbers at the end are no call.
 pub fn run(chip: Chip, memory: &mut [u8], numbers: &[u32]) -> Ran
-    ensures { λ r. ⌜ (r ≡ ranOf chip (now (memory .entry)) (callsIn (now (numbers .entry)))) × (now (memory .exit) ≡ memoryAfter chip (now (memory .entry)) (callsIn (now (numbers .entry)))) ⌝ }
+    ensures { λ r. ⌜ (r ≡ ranOf chip (now (memory .entry)) (callsIn (now (numbers .entry)))) × (now (memory .exit) ≡ memoryLeft chip (now (memory .entry)) (callsIn (now (numbers .entry)))) ⌝ }
 {
     let mut ran = Ran {
         chip: chip,
@@ -73,7 +73,7 @@ pub fn run(chip: Chip, memory: &mut [u8], numbers: &[u32]) -> Ran
 
 // "Start fresh over any memory": a chip made fresh with this many pages to a bank, and the calls. Demand 3 is in the contract.
 pub fn draw(pages: u16, memory: &mut [u8], numbers: &[u32]) -> Ran
-    ensures { λ r. ⌜ (r ≡ ranOf (freshOf pages) (now (memory .entry)) (callsIn (now (numbers .entry)))) × (now (memory .exit) ≡ memoryAfter (freshOf pages) (now (memory .entry)) (callsIn (now (numbers .entry)))) ⌝ }
+    ensures { λ r. ⌜ (r ≡ ranOf (freshOf pages) (now (memory .entry)) (callsIn (now (numbers .entry)))) × (now (memory .exit) ≡ memoryLeft (freshOf pages) (now (memory .entry)) (callsIn (now (numbers .entry)))) ⌝ }
     ensures { λ _. ⌜ IsPicture pages (now (memory .entry)) (callsIn (now (numbers .entry))) (now (memory .exit)) ⌝ }
 {
     run(fresh::fresh(pages), memory, numbers)

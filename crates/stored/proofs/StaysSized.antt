@@ -7,12 +7,11 @@ use native.Mathlib.Nat.{mod-lt, lt-trans}
 use lib.Bits.{bitOr, or-lt}
 use lib.Dec.{eqb, lit<}
 use lib.Pow.{pow-pos}
-use lib.ListN.{length, getD, set, length-set}
+use lib.ListN.{length, getD}
 use Rattle.bits.proofs.Laws.{word-lt}
 use Rattle.numbers.specs.Numbers.{whenDone}
-use Rattle.lists.specs.Update.{update}
 use Rattle.bank.specs.Work.{loaded}
-use Rattle.lists.proofs.Updates.{length-update, update-all}
+use Rattle.lists.proofs.Updates.{length-update}
 use Rattle.chip.specs.declared.Answered.{Answered}
 use Rattle.chip.specs.declared.Call.{Call}
 use Rattle.chip.specs.declared.Chip.{Chip}
@@ -25,7 +24,7 @@ use Rattle.chip.specs.Effects.{Reading, effect, pixelsAfter}
 use Rattle.chip.specs.Refusals.{number}
 use Rattle.chip.specs.Calls.{readIn, answeredWith, answeredOf}
 use Rattle.chip.proofs.Accepted.{accepted, page-range}
-use Rattle.block.proofs.Sized.{Listed, listed-set, Sized}
+use Rattle.block.proofs.Sized.{listed-set, Sized, resized}
 
 -- ---- an operation that is done
 
@@ -44,22 +43,9 @@ Word (readRegister number) = Unit {0}
 Word unknown = Unit {0}
 
 module _ (c : Control) (pixels memory : List ℕ) (read : Reading) (z : Sized (record { control = c; pixels = pixels })) where
-  -- with such arrays, and the counter advanced
-  made : {banks' registers' tags' pixels' : List ℕ} {picking hit : Bool}
-      → Listed 4 (2 ^ 16) banks' → Listed 7 (2 ^ 32) registers' → Listed 8 (2 ^ 32) tags' → length pixels' ≡ 256
-      → Sized (record {
-        control = record {
-          pages = c .pages;
-          banks = banks';
-          registers = registers';
-          picking = picking;
-          hit = hit;
-          counter = (c .counter + 1) % 2 ^ 32;
-          tags = tags';
-        };
-        pixels = pixels';
-      })
-  made b r t p = record { pages-fit = z .pages-fit; banks = b; registers = r; counter-fits = mod-lt (c .counter + 1) (pow-pos 32); tags = t; pixels-long = p }
+  -- the counter advanced
+  ticked-fits : (c .counter + 1) % 2 ^ 32 < 2 ^ 32
+  ticked-fits = mod-lt (c .counter + 1) (pow-pos 32)
 
   page-fits : (b p : ℕ) → inRange slots (c .pages) (access b p) ≡ true → p < 2 ^ 16
   unfolding inRange
@@ -77,17 +63,17 @@ module _ (c : Control) (pixels memory : List ℕ) (read : Reading) (z : Sized (r
   done-sized : (o : Operation) → inRange slots (c .pages) o ≡ true → Word o
       → Sized (record { control = ticked (effect slots c o read .control); pixels = pixelsAfter c pixels memory (effect slots c o read .move) })
   unfolding ticked effect pixelsAfter withRegister loaded painted tagWith marked closed inRange
-  done-sized (access b p) r w = made (listed-set (z .banks) b p (page-fits b p r)) (z .registers) (z .tags) (z .pixels-long)
-  done-sized (precharge b) r w = made (listed-set (z .banks) b 65535 (lit< tt)) (z .registers) (z .tags) (z .pixels-long)
-  done-sized (duplicate b p) r w = made (listed-set (z .banks) b p (page-fits b p r)) (z .registers) (z .tags) (z .pixels-long)
-  done-sized (readBlock b k s) r w = made (z .banks) (z .registers) (listed-set (z .tags) s 0 (lit< tt)) (simp length-update (z .pixels-long))
-  done-sized (writeBlock m b k s) r w = made (z .banks) (z .registers) (z .tags) (z .pixels-long)
-  done-sized (dataRead s k) r w = made (z .banks) (z .registers) (z .tags) (z .pixels-long)
-  done-sized (dataWrite d) r w = made (z .banks) (z .registers) (listed-set (z .tags) _ _ (word-lt 32 _)) (simp length-update (z .pixels-long))
-  done-sized (writeTag m s t) r w = made (z .banks) (z .registers) (listed-set (z .tags) s _ (tag-fits m s t w)) (z .pixels-long)
-  done-sized (writeRegister a v) r w = made (z .banks) (listed-set (z .registers) (a - 1) _ (register-fits (eqb a 6) v w)) (z .tags) (z .pixels-long)
-  done-sized (readRegister a) r w = made (z .banks) (z .registers) (z .tags) (z .pixels-long)
-  done-sized unknown r w = made (z .banks) (z .registers) (z .tags) (z .pixels-long)
+  done-sized (access b p) r w = resized z (listed-set (z .banks) b p (page-fits b p r)) (z .registers) ticked-fits (z .tags) (z .pixels-long)
+  done-sized (precharge b) r w = resized z (listed-set (z .banks) b 65535 (lit< tt)) (z .registers) ticked-fits (z .tags) (z .pixels-long)
+  done-sized (duplicate b p) r w = resized z (listed-set (z .banks) b p (page-fits b p r)) (z .registers) ticked-fits (z .tags) (z .pixels-long)
+  done-sized (readBlock b k s) r w = resized z (z .banks) (z .registers) ticked-fits (listed-set (z .tags) s 0 (lit< tt)) (simp length-update (z .pixels-long))
+  done-sized (writeBlock m b k s) r w = resized z (z .banks) (z .registers) ticked-fits (z .tags) (z .pixels-long)
+  done-sized (dataRead s k) r w = resized z (z .banks) (z .registers) ticked-fits (z .tags) (z .pixels-long)
+  done-sized (dataWrite d) r w = resized z (z .banks) (z .registers) ticked-fits (listed-set (z .tags) _ _ (word-lt 32 _)) (simp length-update (z .pixels-long))
+  done-sized (writeTag m s t) r w = resized z (z .banks) (z .registers) ticked-fits (listed-set (z .tags) s _ (tag-fits m s t w)) (z .pixels-long)
+  done-sized (writeRegister a v) r w = resized z (z .banks) (listed-set (z .registers) (a - 1) _ (register-fits (eqb a 6) v w)) ticked-fits (z .tags) (z .pixels-long)
+  done-sized (readRegister a) r w = resized z (z .banks) (z .registers) ticked-fits (z .tags) (z .pixels-long)
+  done-sized unknown r w = resized z (z .banks) (z .registers) ticked-fits (z .tags) (z .pixels-long)
 
 -- ---- a call
 

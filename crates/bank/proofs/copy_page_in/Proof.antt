@@ -1,6 +1,6 @@
 -- `bank::copy_page_in` meets its contract: what was done on the lent part, by `copy-lent`. Assumes nothing.
 use native.Mathlib.Omega.{arith}
-use Rattle.bank.proofs.Parts.{copy-lent}
+use Rattle.bank.proofs.LentParts.{copy-lent}
 use borrow.Author.Needs.{needs}
 use Rattle.bank.proofs.copy_page_in.Statement.{statement}
 use Rattle.bank.proofs.copy_page_in.Tie as tie

@@ -1,5 +1,5 @@
 -- `bank::load_in` meets its contract: what was read from the lent part, by `load-part`. Assumes nothing.
-use Rattle.bank.proofs.Parts.{load-part}
+use Rattle.bank.proofs.LentParts.{load-part}
 use borrow.Author.Needs.{needs}
 use Rattle.bank.proofs.load_in.Statement.{statement}
 use Rattle.bank.proofs.load_in.Tie as tie

@@ -7,7 +7,7 @@ use borrow.Author.Needs.{needs}
 use Rattle.numbers.specs.Numbers.{whenDone}
 use Rattle.layout.specs.Memory.{size, lineStart}
 use Rattle.numbers.proofs.Tests.{test-holds, test-fails}
-use Rattle.layout.proofs.Lines as lines
+use Rattle.layout.proofs.ScanLines as lines
 use Rattle.chip.specs.Answers.{packed}
 use Rattle.block.specs.OnBlock.{blockLineNumber}
 use Rattle.own.proofs.WellFormed.{well-long}

@@ -8,7 +8,7 @@ use borrow.Author.Needs.{needs}
 use lib.ListN.{take}
 use lib.Seq.{length-take-le}
 use Rattle.paneltest.specs.Session.{startRun}
-use Rattle.paneltest.proofs.Runs.{close-room, ran-room}
+use Rattle.paneltest.proofs.SessionRuns.{close-room, ran-room}
 use Rattle.paneltest.proofs.take_turn.Statement.{statement}
 use Rattle.paneltest.proofs.take_turn.Tie as tie
 

@@ -1,6 +1,6 @@
 -- runs::next meets its contract: what the call gave, and one more where it was refused. Assumes nothing.
 use borrow.Author.Needs.{needs}
-use Rattle.runs.proofs.Calls.{is-next, counts-done, counts-refused}
+use Rattle.runs.proofs.EachCall.{is-next, counts-done, counts-refused}
 use Rattle.runs.proofs.next.Statement.{statement}
 use Rattle.runs.proofs.next.Tie as tie
 

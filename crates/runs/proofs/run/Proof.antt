@@ -5,8 +5,8 @@ use Prim.Native.Nat.{_-_, _≤_}
 use native.Mathlib.Omega.{arith}
 use lib.ListN.{length, drop, length-drop}
 use borrow.Author.Needs.{needs}
-use Rattle.runs.specs.Runs.{callsIn, ranFrom, ranOf, memoryAfter}
-use Rattle.runs.proofs.Calls.{calls-none, turn}
+use Rattle.runs.specs.Runs.{callsIn, ranFrom, ranOf, memoryLeft}
+use Rattle.runs.proofs.EachCall.{calls-none, turn}
 use Rattle.runs.proofs.run.Statement.{statement}
 use Rattle.runs.proofs.run.Tie as tie
 
@@ -16,7 +16,7 @@ Inv-loop memory₀ numbers ran₀ at₀ memory ran at =
     × (ran .refused ≤ at)
     × (length memory ≡ length memory₀)
     × (ranFrom ran memory (callsIn (drop at numbers)) ≡ ranFrom ran₀ memory₀ (callsIn numbers))
-    × (memoryAfter (ran .chip) memory (callsIn (drop at numbers)) ≡ memoryAfter (ran₀ .chip) memory₀ (callsIn numbers))
+    × (memoryLeft (ran .chip) memory (callsIn (drop at numbers)) ≡ memoryLeft (ran₀ .chip) memory₀ (callsIn numbers))
 
 abbrev μ-loop : tie.MeasureT-loop
 μ-loop memory₀ numbers ran₀ at₀ memory ran at = length numbers - at
@@ -35,7 +35,7 @@ loop-again c =
     (search needs, omega (arith, t .2), search needs, t .0 ∙ was .inv .3, t .1 ∙ was .inv .4)
 
 returns : tie.Need-returns Inv-loop μ-loop
-unfolding ranFrom ranOf memoryAfter
+unfolding ranFrom ranOf memoryLeft
 returns c =
     let end = c .before .loop in
     let none = calls-none (drop (end .at) (c .before .before .before .before .args .numbers .now)) (simp length-drop (omega arith)) in

@@ -6,7 +6,7 @@ use native.Mathlib.Nat.{zero-add}
 use native.Mathlib.Omega.{arith}
 use lib.ListN.{length, getD, set, take, drop, length-drop}
 use lib.Seq.{sets, length-sets, take-all, getD-take, getD-drop, length-take-le}
-use Rattle.lists.proofs.Stores.{byte-turn, sets-whole}
+use Rattle.lists.proofs.RowStores.{byte-turn, sets-whole}
 use Rattle.block.specs.Block.{pixelsAt, pixelBytes, IsBlock, pixelsIn}
 use Rattle.stored.proofs.pixels.Statement.{statement}
 use Rattle.stored.proofs.pixels.Tie as tie

@@ -5,7 +5,7 @@ use native.Mathlib.Omega.{arith}
 use lib.ListN.{length, take}
 use lib.Seq.{sets, length-sets, take-all}
 use borrow.Author.Needs.{needs}
-use Rattle.lists.proofs.Stores.{byte-turn}
+use Rattle.lists.proofs.RowStores.{byte-turn}
 use Rattle.stored.proofs.put_bytes.Statement.{statement}
 use Rattle.stored.proofs.put_bytes.Tie as tie
 

@@ -9,7 +9,7 @@ use denote.Ref.{now}
 use borrow.Author.Needs.{needs}
 use Rattle.lists.specs.Words.{halves}
 use Rattle.block.specs.Block.{flags}
-use Rattle.stored.proofs.Stores.{control-stored}
+use Rattle.stored.proofs.PartStores.{control-stored}
 use Rattle.stored.proofs.put_control.Statement.{statement}
 use Rattle.stored.proofs.put_control.Tie as tie
 

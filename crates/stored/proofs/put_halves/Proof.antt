@@ -6,7 +6,7 @@ use lib.ListN.{length, take}
 use lib.Seq.{sets, length-sets, take-all}
 use borrow.Author.Needs.{needs}
 use Rattle.lists.specs.Words.{row, halves}
-use Rattle.lists.proofs.Stores.{half-turn}
+use Rattle.lists.proofs.RowStores.{half-turn}
 use Rattle.stored.proofs.put_halves.Statement.{statement}
 use Rattle.stored.proofs.put_halves.Tie as tie
 

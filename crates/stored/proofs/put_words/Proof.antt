@@ -6,7 +6,7 @@ use lib.ListN.{length, take}
 use lib.Seq.{sets, length-sets, take-all}
 use borrow.Author.Needs.{needs}
 use Rattle.lists.specs.Words.{row, words}
-use Rattle.lists.proofs.Stores.{word-turn}
+use Rattle.lists.proofs.RowStores.{word-turn}
 use Rattle.stored.proofs.put_words.Statement.{statement}
 use Rattle.stored.proofs.put_words.Tie as tie
 

@@ -4,7 +4,7 @@ use denote.Ref.{now}
 use borrow.Author.Needs.{needs}
 use Rattle.block.proofs.Sized.{Sized}
 use Rattle.stored.proofs.Sizes.{sized}
-use Rattle.stored.proofs.Stores.{chip-stored}
+use Rattle.stored.proofs.PartStores.{chip-stored}
 use Rattle.stored.proofs.store.Statement.{statement}
 use Rattle.stored.proofs.store.Tie as tie
 

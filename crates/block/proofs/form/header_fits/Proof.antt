@@ -8,7 +8,7 @@ use denote.Ref.{now}
 use borrow.Author.Needs.{needs}
 use Rattle.lists.specs.Words.{halfAt, wordAt, halvesAt}
 use Rattle.block.specs.Block.{banksAt, registersAt, flagsAt, tagsAt, pixelsAt, blockBytes, header, same}
-use Rattle.block.proofs.Forms.{pair, header-test}
+use Rattle.block.proofs.HeaderForm.{pair, header-test}
 use Rattle.numbers.proofs.Tests.{equal, unequal}
 use Rattle.block.proofs.form.header_fits.Statement.{statement}
 use Rattle.block.proofs.form.header_fits.Tie as tie

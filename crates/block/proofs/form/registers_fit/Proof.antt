@@ -10,7 +10,7 @@ use Rattle.bits.specs.Bits.{every, within}
 use Rattle.pixel.specs.Registers.{register}
 use Rattle.numbers.proofs.Tests.{test-holds, test-fails}
 use Rattle.chip.specs.State.{storable}
-use Rattle.chip.proofs.Forms.{register-test}
+use Rattle.chip.proofs.StateForms.{register-test}
 use Rattle.lists.specs.Words.{wordsAt}
 use Rattle.block.specs.Block.{decodeControl}
 use Rattle.lists.proofs.Rows.{words-lt}

@@ -14,7 +14,7 @@ use Rattle.chip.specs.Refusals.{asks}
 use Rattle.chip.specs.Answers.{refusalOf}
 use Rattle.block.specs.Block.{decodeControl}
 use Rattle.block.proofs.Puts.{stores-of, ticks}
-use Rattle.own.proofs.Lines.{row-read-register}
+use Rattle.own.proofs.OwnLines.{row-read-register}
 use Rattle.own.proofs.Owns.{outside, by-asks, refused, done-answer, done-block}
 use Rattle.buffer.proofs.Settings.{register-range}
 use Rattle.buffer.proofs.registers.read_register.Statement.{statement}

@@ -1,9 +1,8 @@
 -- `buffer::registers::write_register` meets its contract. Assumes nothing.
 use mathlib.Core.List.{[], _∷_}
-use mathlib.Core.Path.{_≡_, refl, sym, ap, _∙_}
+use mathlib.Core.Path.{_≡_, sym, ap, _∙_}
 use Prim.Native.Nat.{_≤_, _%_, _^_, ℕ, _<_}
 use native.Mathlib.Omega.{arith}
-use lib.ListN.{drop}
 use lib.Dec.{lit≤}
 use denote.Ref.{now}
 use borrow.Author.Tests.{ne-eqb}
@@ -20,7 +19,7 @@ use Rattle.chip.specs.Answers.{refusalOf}
 use Rattle.block.specs.Block.{encode, decodeControl, tickedIn, pixelsIn}
 use Rattle.block.proofs.Puts.{Stores, stores-of, stores-register, stores-flags, ticks}
 use Rattle.own.proofs.Owns.{tests, outside, by-asks, refused, done-answer, done-block}
-use Rattle.own.proofs.Lines.{row-write-register}
+use Rattle.own.proofs.OwnLines.{row-write-register}
 use Rattle.buffer.proofs.Settings.{register-range, plain-register, compare-register}
 use Rattle.buffer.proofs.registers.write_register.Statement.{statement}
 use Rattle.buffer.proofs.registers.write_register.Tie as tie

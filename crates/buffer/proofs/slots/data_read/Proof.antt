@@ -16,7 +16,7 @@ use Rattle.chip.specs.Answers.{refusalOf}
 use Rattle.chip.proofs.Accepted.{word-range}
 use Rattle.block.specs.Block.{decodeControl}
 use Rattle.block.proofs.Puts.{stores-of, ticks}
-use Rattle.own.proofs.Lines.{row-data-read}
+use Rattle.own.proofs.OwnLines.{row-data-read}
 use Rattle.own.proofs.Owns.{outside, by-asks, refused, done-answer, done-block}
 use Rattle.buffer.proofs.slots.data_read.Statement.{statement}
 use Rattle.buffer.proofs.slots.data_read.Tie as tie

@@ -3,7 +3,6 @@ use mathlib.Core.Bool.{Bool, true, false, cond}
 use mathlib.Core.Path.{_≡_, refl, ap, _∙_}
 use Prim.Native.Nat.{_<_, _^_, ℕ}
 use native.Mathlib.Omega.{arith}
-use lib.ListN.{drop}
 use lib.Bits.{or-lt, bitOr}
 use lib.Dec.{eqb}
 use denote.Ref.{now}
@@ -19,7 +18,7 @@ use Rattle.chip.specs.Refusals.{asks}
 use Rattle.chip.specs.Answers.{refusalOf}
 use Rattle.block.specs.Block.{encode, decodeControl, tickedIn, pixelsIn}
 use Rattle.block.proofs.Puts.{stores-of, stores-tag, ticks}
-use Rattle.own.proofs.Lines.{row-write-tag}
+use Rattle.own.proofs.OwnLines.{row-write-tag}
 use Rattle.own.proofs.Owns.{outside, by-asks, refused, done-answer, done-block}
 use Rattle.buffer.proofs.slots.write_tag.Statement.{statement}
 use Rattle.buffer.proofs.slots.write_tag.Tie as tie

@@ -4,7 +4,6 @@ use mathlib.Core.List.{List}
 use mathlib.Core.Path.{_≡_, refl, ap, _∙_}
 use Prim.Native.Nat.{_<_, ℕ}
 use native.Mathlib.Omega.{arith}
-use lib.ListN.{drop}
 use lib.Dec.{eqb}
 use denote.Ref.{now}
 use borrow.Author.Needs.{needs}
@@ -15,7 +14,7 @@ use Rattle.pixel.specs.Writes.{intoSlot, intoWord, outcomeOf}
 use Rattle.pixel.proofs.Outcomes.{into-slot-lt, into-word-lt}
 use Rattle.numbers.proofs.Tests.{and-left, test-holds, test-fails}
 use Rattle.chip.specs.declared.Answer.the-variants.{Done}
-use Rattle.chip.specs.Effects.{reading, slotByte, effect}
+use Rattle.chip.specs.Effects.{slotByte}
 use Rattle.chip.specs.Operations.{dataWrite, inRange}
 use Rattle.chip.specs.State.{slots}
 use Rattle.numbers.specs.Numbers.{first}
@@ -23,7 +22,7 @@ use Rattle.chip.specs.Refusals.{asks}
 use Rattle.chip.specs.Answers.{refusalOf}
 use Rattle.chip.proofs.Accepted.{write-range}
 use Rattle.block.specs.Block.{decodeControl, pixelsIn}
-use Rattle.own.proofs.Lines.{asked, row-stateful}
+use Rattle.own.proofs.OwnLines.{asked, row-stateful}
 use Rattle.own.proofs.Owns.{outside, by-asks, refused, done-answer, done-block}
 use Rattle.buffer.proofs.Draws.{write-leaves, write-answers}
 use Rattle.buffer.proofs.writes.stateful_write.Statement.{statement}

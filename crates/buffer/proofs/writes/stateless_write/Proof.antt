@@ -3,7 +3,6 @@ use mathlib.Core.Bool.{true}
 use mathlib.Core.Path.{_≡_, refl, ap, _∙_}
 use Prim.Native.Nat.{_<_}
 use native.Mathlib.Omega.{arith}
-use lib.ListN.{drop}
 use lib.Dec.{eqb}
 use denote.Ref.{now}
 use borrow.Author.Needs.{needs}
@@ -13,7 +12,7 @@ use Rattle.pixel.specs.declared.Outcome.{Outcome}
 use Rattle.pixel.specs.Writes.{outcomeOf}
 use Rattle.numbers.proofs.Tests.{and-left, test-holds, test-fails}
 use Rattle.chip.specs.declared.Answer.the-variants.{Done}
-use Rattle.chip.specs.Effects.{reading, slotByte, effect}
+use Rattle.chip.specs.Effects.{slotByte}
 use Rattle.chip.specs.Operations.{dataWrite, inRange}
 use Rattle.chip.specs.State.{slots}
 use Rattle.numbers.specs.Numbers.{first}
@@ -21,7 +20,7 @@ use Rattle.chip.specs.Refusals.{asks}
 use Rattle.chip.specs.Answers.{refusalOf}
 use Rattle.chip.proofs.Accepted.{write-range}
 use Rattle.block.specs.Block.{decodeControl, pixelsIn}
-use Rattle.own.proofs.Lines.{asked, row-stateless}
+use Rattle.own.proofs.OwnLines.{asked, row-stateless}
 use Rattle.own.proofs.Owns.{outside, by-asks, refused, done-answer, done-block}
 use Rattle.buffer.proofs.Draws.{stateless-slot, stateless-word, write-leaves, write-answers}
 use Rattle.buffer.proofs.writes.stateless_write.Statement.{statement}

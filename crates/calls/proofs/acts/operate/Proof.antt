@@ -6,7 +6,7 @@ use native.Mathlib.Omega.{arith}
 use denote.Ref.{now}
 use borrow.Author.Needs.{needs}
 use Rattle.chip.specs.Effects.{effect, memoryAfter}
-use Rattle.own.proofs.Lines.{row-stateful}
+use Rattle.own.proofs.OwnLines.{row-stateful}
 use Rattle.calls.proofs.ByLine.{Ready, beside-memory}
 use Rattle.calls.proofs.acts.operate.Statement.{statement}
 use Rattle.calls.proofs.acts.operate.Tie as tie

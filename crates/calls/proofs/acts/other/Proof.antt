@@ -8,7 +8,7 @@ use borrow.Author.Needs.{needs}
 use borrow.Author.Tests.{le-leb, lt-leb}
 use Rattle.chip.specs.Operations.{isOperation}
 use Rattle.chip.specs.Effects.{effect, memoryAfter}
-use Rattle.own.proofs.Lines.{row-access, row-precharge, row-read-block, row-data-read, row-stateless, row-write-tag, row-write-register, row-read-register}
+use Rattle.own.proofs.OwnLines.{row-access, row-precharge, row-read-block, row-data-read, row-stateless, row-write-tag, row-write-register, row-read-register}
 use Rattle.calls.proofs.ByLine.{Ready, unknown, by-its-line, beside-memory}
 use Rattle.calls.proofs.acts.other.Statement.{statement}
 use Rattle.calls.proofs.acts.other.Tie as tie

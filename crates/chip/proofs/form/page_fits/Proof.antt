@@ -3,7 +3,7 @@ use mathlib.Core.Path.{ap, _∙_}
 use Prim.Native.Nat.{ℕ}
 use lib.Dec.{leb}
 use borrow.Author.Needs.{needs}
-use Rattle.chip.proofs.Forms.{page-test}
+use Rattle.chip.proofs.StateForms.{page-test}
 use Rattle.chip.proofs.form.page_fits.Statement.{statement}
 use Rattle.chip.proofs.form.page_fits.Tie as tie
 

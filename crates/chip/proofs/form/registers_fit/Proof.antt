@@ -5,7 +5,7 @@ use lib.ListN.{getD}
 use mir.Syntax.{w32}
 use mir.Val.{Fits}
 use borrow.Author.Needs.{needs}
-use Rattle.chip.proofs.Forms.{register-test}
+use Rattle.chip.proofs.StateForms.{register-test}
 use Rattle.chip.proofs.form.registers_fit.Statement.{statement}
 use Rattle.chip.proofs.form.registers_fit.Tie as tie
 

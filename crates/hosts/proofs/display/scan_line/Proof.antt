@@ -10,7 +10,7 @@ use Rattle.layout.specs.Memory.{scanLine, lineGiven}
 use Rattle.numbers.proofs.Tests.{test-holds, test-fails}
 use Rattle.chip.specs.Refusals.{scanLineNumber}
 use Rattle.chip.specs.Calls.{scanLineOf}
-use Rattle.chip.proofs.Forms.{line-told}
+use Rattle.chip.proofs.StateForms.{line-told}
 use Rattle.hosts.proofs.display.scan_line.Statement.{statement}
 use Rattle.hosts.proofs.display.scan_line.Tie as tie
 

@@ -4,7 +4,7 @@ use borrow.Author.Needs.{needs}
 use Rattle.numbers.specs.Numbers.{first}
 use Rattle.numbers.proofs.Tests.{test-holds, test-fails}
 use Rattle.chip.specs.Refusals.{scanLineNumber}
-use Rattle.chip.proofs.Forms.{line-told}
+use Rattle.chip.proofs.StateForms.{line-told}
 use Rattle.hosts.proofs.display.scan_line_number.Statement.{statement}
 use Rattle.hosts.proofs.display.scan_line_number.Tie as tie
 

@@ -3,7 +3,7 @@ use native.Mathlib.Omega.{arith}
 use borrow.Author.Needs.{needs}
 use Rattle.layout.specs.Memory.{size, bankStart, inBank, place, onLine, lineStart}
 use Rattle.layout.proofs.Places.{bank-fits}
-use Rattle.layout.proofs.Lines.{line-fits}
+use Rattle.layout.proofs.ScanLines.{line-fits}
 use Rattle.layout.proofs.memory.line_start.Statement.{statement}
 use Rattle.layout.proofs.memory.line_start.Tie as tie
 

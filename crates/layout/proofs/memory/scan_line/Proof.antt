@@ -5,7 +5,7 @@ use native.Mathlib.Omega.{arith}
 use lib.ListN.{length}
 use borrow.Author.Needs.{needs}
 use Rattle.layout.specs.Memory.{scanLine, lineNumber}
-use Rattle.layout.proofs.Lines.{passed, line-inside, line-given, line-refused}
+use Rattle.layout.proofs.ScanLines.{passed, line-inside, line-given, line-refused}
 use Rattle.layout.proofs.memory.scan_line.Statement.{statement}
 use Rattle.layout.proofs.memory.scan_line.Tie as tie
 

@@ -7,7 +7,7 @@ use lib.ListN.{length, length-append}
 use borrow.Author.Needs.{needs}
 use Rattle.lines.specs.Printing.{digitsOf}
 use Rattle.lines.proofs.Digits.{digits-single, digits-tenth}
-use Rattle.lines.proofs.Stores.{stored-both}
+use Rattle.lines.proofs.PrintStores.{stored-both}
 use borrow.Fn.Kinds.{In}
 use borrow.Fn.PlainCycle.{Measures, is, falls, and}
 use Rattle.lines.proofs.printer.put_digits.Reads as put-digits

@@ -3,7 +3,7 @@ use native.Mathlib.Omega.{arith}
 use borrow.Author.Needs.{needs}
 use Rattle.lines.specs.Printing.{printedLine}
 use Rattle.lines.proofs.Digits.{number-count}
-use Rattle.lines.proofs.Stores.{stored-both}
+use Rattle.lines.proofs.PrintStores.{stored-both}
 use Rattle.lines.proofs.printer.put_line.Statement.{statement}
 use Rattle.lines.proofs.printer.put_line.Tie as tie
 

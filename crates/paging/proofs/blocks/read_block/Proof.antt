@@ -1,5 +1,5 @@
 -- `paging::blocks::read_block` meets its contract. Assumes nothing.
-use mathlib.Core.Path.{refl, ap, _∙_}
+use mathlib.Core.Path.{ap, _∙_}
 use Prim.Native.Nat.{_<_}
 use native.Mathlib.Omega.{arith}
 use lib.ListN.{getD}
@@ -9,7 +9,7 @@ use borrow.Author.Needs.{needs}
 use Rattle.layout.specs.Memory.{address}
 use Rattle.numbers.proofs.Tests.{and-left, test-holds, test-fails, equal, unequal}
 use Rattle.bank.specs.Work.{inSlot, loaded}
-use Rattle.chip.specs.State.{openPage, slots, closed, isClosed}
+use Rattle.chip.specs.State.{openPage, slots}
 use Rattle.chip.specs.Operations.{readBlock, inRange}
 use Rattle.chip.specs.Effects.{effect, pixelsAfter}
 use Rattle.chip.specs.Refusals.{asks}
@@ -20,7 +20,7 @@ use Rattle.bank.proofs.Slots.{slot-inside}
 use Rattle.block.proofs.Puts.{stores-tag, stores-pixels, stores-of, ticks}
 use Rattle.own.proofs.Owns.{outside, by-asks, bank-shut, bank-open, refused, done-answer, done-block}
 use Rattle.own.proofs.WellFormed.{pages-in, page-below}
-use Rattle.own.proofs.Lines.{row-read-block}
+use Rattle.own.proofs.OwnLines.{row-read-block}
 use Rattle.paging.proofs.blocks.read_block.Statement.{statement}
 use Rattle.paging.proofs.blocks.read_block.Tie as tie
 

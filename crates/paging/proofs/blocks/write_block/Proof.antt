@@ -1,6 +1,6 @@
 -- `paging::blocks::write_block` meets its contract. Assumes nothing.
 use mathlib.Core.Bool.{false}
-use mathlib.Core.Path.{refl, ap, _∙_}
+use mathlib.Core.Path.{ap, _∙_}
 use Prim.Native.Nat.{_<_, ℕ}
 use native.Mathlib.Omega.{arith}
 use lib.Dec.{eqb}
@@ -11,7 +11,7 @@ use Rattle.bank.specs.Work.{tagged}
 use Rattle.chip.specs.declared.Answer.the-variants.{Done}
 use Rattle.chip.specs.Effects.{memoryAfter, effect, pixelsAfter}
 use Rattle.chip.specs.Operations.{writeBlock, inRange}
-use Rattle.chip.specs.State.{slots, closed, isClosed}
+use Rattle.chip.specs.State.{slots}
 use Rattle.chip.specs.Refusals.{asks}
 use Rattle.chip.specs.Answers.{refusalOf}
 use Rattle.chip.proofs.Accepted.{block-range}
@@ -19,7 +19,7 @@ use Rattle.block.specs.Block.{decodeControl}
 use Rattle.block.proofs.Puts.{stores-of, ticks}
 use Rattle.own.proofs.Owns.{done-memory, outside, by-asks, bank-shut, bank-open, refused, done-answer, done-block}
 use Rattle.own.proofs.WellFormed.{pages-in, page-below}
-use Rattle.own.proofs.Lines.{row-write-block}
+use Rattle.own.proofs.OwnLines.{row-write-block}
 use Rattle.paging.proofs.blocks.write_block.Statement.{statement}
 use Rattle.paging.proofs.blocks.write_block.Tie as tie
 

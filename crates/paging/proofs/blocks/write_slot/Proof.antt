@@ -2,7 +2,6 @@
 use mathlib.Core.Path.{_∙_}
 use native.Mathlib.Omega.{arith}
 use lib.ListN.{length-take, length-drop}
-use denote.Ref.{now}
 use borrow.Author.Needs.{needs}
 use Rattle.bank.specs.Work.{backMask}
 use Rattle.chip.specs.Effects.{slotByte}

@@ -1,22 +1,20 @@
 -- `paging::pages::access` meets its contract. Assumes nothing.
-use mathlib.Core.Path.{refl, ap, _∙_}
+use mathlib.Core.Path.{ap, _∙_}
 use Prim.Native.Nat.{_<_, _^_}
 use native.Mathlib.Omega.{arith}
 use denote.Ref.{now}
 use borrow.Author.Needs.{needs}
 use Rattle.numbers.proofs.Tests.{and-left, test-holds, test-fails, equal, unequal}
-use Rattle.numbers.specs.Numbers.{first}
 use Rattle.chip.specs.Refusals.{asks}
 use Rattle.chip.specs.Answers.{refusalOf}
 use Rattle.chip.specs.Effects.{effect, pixelsAfter}
 use Rattle.chip.specs.Operations.{access, inRange}
-use Rattle.chip.specs.State.{closed, isClosed}
 use Rattle.chip.proofs.Accepted.{page-range}
 use Rattle.block.specs.Block.{decodeControl, tickedIn}
 use Rattle.block.proofs.Puts.{stores-of, stores-page, ticks}
 use Rattle.own.proofs.WellFormed.{pages-in}
 use Rattle.own.proofs.Owns.{outside, by-asks, access-open, access-shut, refused, done-answer, done-block}
-use Rattle.own.proofs.Lines.{row-access}
+use Rattle.own.proofs.OwnLines.{row-access}
 use Rattle.paging.proofs.pages.access.Statement.{statement}
 use Rattle.paging.proofs.pages.access.Tie as tie
 

@@ -1,5 +1,5 @@
 -- `paging::pages::duplicate` meets its contract. Assumes nothing.
-use mathlib.Core.Path.{ap₂, refl, ap, _∙_}
+use mathlib.Core.Path.{ap₂, ap, _∙_}
 use Prim.Native.Nat.{_<_, _^_, ℕ}
 use native.Mathlib.Omega.{arith}
 use denote.Ref.{now}
@@ -11,13 +11,12 @@ use Rattle.chip.specs.Refusals.{asks}
 use Rattle.chip.specs.Answers.{refusalOf}
 use Rattle.chip.specs.Effects.{effect, pixelsAfter, memoryAfter}
 use Rattle.chip.specs.Operations.{duplicate, inRange}
-use Rattle.chip.specs.State.{closed, isClosed}
 use Rattle.chip.proofs.Accepted.{page-range}
 use Rattle.block.specs.Block.{decodeControl, tickedIn}
 use Rattle.block.proofs.Puts.{stores-of, stores-page, ticks}
 use Rattle.own.proofs.WellFormed.{pages-in, page-below}
 use Rattle.own.proofs.Owns.{outside, by-asks, bank-shut, bank-open, refused, done-answer, done-block, done-memory}
-use Rattle.own.proofs.Lines.{row-duplicate}
+use Rattle.own.proofs.OwnLines.{row-duplicate}
 use Rattle.paging.proofs.pages.duplicate.Statement.{statement}
 use Rattle.paging.proofs.pages.duplicate.Tie as tie
 

@@ -16,7 +16,7 @@ use Rattle.chip.specs.State.{closed}
 use Rattle.block.specs.Block.{decodeControl, tickedIn}
 use Rattle.block.proofs.Puts.{stores-of, stores-page, ticks}
 use Rattle.own.proofs.Owns.{outside, by-asks, refused, done-answer, done-block}
-use Rattle.own.proofs.Lines.{row-precharge}
+use Rattle.own.proofs.OwnLines.{row-precharge}
 use Rattle.paging.proofs.pages.precharge.Statement.{statement}
 use Rattle.paging.proofs.pages.precharge.Tie as tie
 

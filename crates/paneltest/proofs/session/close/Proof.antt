@@ -2,7 +2,7 @@
 use mathlib.Core.Path.{refl}
 use borrow.Author.Needs.{needs}
 use denote.Ref.{now}
-use Rattle.paneltest.proofs.Runs.{close-line, close-none}
+use Rattle.paneltest.proofs.SessionRuns.{close-line, close-none}
 use Rattle.paneltest.proofs.session.close.Statement.{statement}
 use Rattle.paneltest.proofs.session.close.Tie as tie
 

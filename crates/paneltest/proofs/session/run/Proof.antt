@@ -7,7 +7,7 @@ use borrow.Author.Needs.{needs}
 use lib.ListN.{length, take, getD}
 use lib.Seq.{take-all}
 use Rattle.paneltest.specs.Session.{startRun, ran, Leaves}
-use Rattle.paneltest.proofs.Runs.{byte-room, leaves-more}
+use Rattle.paneltest.proofs.SessionRuns.{byte-room, leaves-more}
 use Rattle.paneltest.proofs.session.run.Statement.{statement}
 use Rattle.paneltest.proofs.session.run.Tie as tie
 

@@ -14,7 +14,7 @@ use Rattle.chip.specs.declared.Answered.{Answered}
 use Rattle.chip.specs.declared.Refusal.{Refusal}
 use Rattle.chip.specs.Calls.{answeredOf, memoryOf}
 use Rattle.runs.specs.declared.Ran.{Ran}
-use Rattle.runs.specs.Runs.{callsIn, callAt, refusals, nextRan, ranFrom, memoryAfter}
+use Rattle.runs.specs.Runs.{callsIn, callAt, refusals, nextRan, ranFrom, memoryLeft}
 
 -- ---- six at a time
 
@@ -71,9 +71,9 @@ one-at-most (Refused why) = omega arith
 pub turn : (numbers memory memory' : List ℕ) (at : ℕ) (ran ran' : Ran) (x : Call) → at + 6 ≤ length numbers → x ≡ callAt numbers at
     → ran' ≡ nextRan ran memory x → memory' ≡ memoryOf (ran .chip) memory x
     → (ranFrom ran' memory' (callsIn (drop (at + 6) numbers)) ≡ ranFrom ran memory (callsIn (drop at numbers)))
-    × (memoryAfter (ran' .chip) memory' (callsIn (drop (at + 6) numbers)) ≡ memoryAfter (ran .chip) memory (callsIn (drop at numbers)))
+    × (memoryLeft (ran' .chip) memory' (callsIn (drop (at + 6) numbers)) ≡ memoryLeft (ran .chip) memory (callsIn (drop at numbers)))
     × (ran' .refused ≤ ran .refused + 1)
-unfolding ranFrom memoryAfter nextRan
+unfolding ranFrom memoryLeft nextRan
 turn numbers memory memory' at ran ran' x h q e e' = (
   rw (e, e', q, calls-more numbers at h),
   rw (e, e', q, calls-more numbers at h),

@@ -9,7 +9,7 @@ use lib.Seq.{sets}
 use Rattle.lists.specs.Words.{halves, words}
 use Rattle.lists.proofs.Seams.{start-long}
 use Rattle.lists.proofs.Rows.{length-row}
-use Rattle.lists.proofs.Stores.{sets-more, sets-whole}
+use Rattle.lists.proofs.RowStores.{sets-more, sets-whole}
 use Rattle.chip.specs.declared.Control.{Control}
 use Rattle.chip.specs.declared.Chip.{Chip}
 use Rattle.block.specs.Block.{banksAt, registersAt, flagsAt, tagsAt, pixelsAt, IsBlock, header, flags, controlParts, parts, encode}

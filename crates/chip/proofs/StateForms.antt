@@ -14,7 +14,7 @@ use borrow.Author.Tests.{eq-eqb, ne-eqb, le-leb}
 use Rattle.bits.specs.Bits.{every, within}
 use Rattle.numbers.specs.Numbers.{first}
 use Rattle.layout.specs.Memory.{lineNumber}
-use Rattle.layout.proofs.Lines.{line-number-formed}
+use Rattle.layout.proofs.ScanLines.{line-number-formed}
 use Rattle.chip.specs.declared.Control.{Control}
 use Rattle.chip.specs.State.{closed, pageFits, storable, wellFormed}
 use Rattle.chip.specs.Refusals.{scanLineNumber}

@@ -16,14 +16,14 @@ use Rattle.lines.specs.declared.reader.Parsed.the-variants.{Read, NotALine}
 use Rattle.lines.specs.Lines.{answerReply}
 use Rattle.lines.specs.Reading.{ended}
 use Rattle.lines.proofs.Digits.{line-count}
-use Rattle.lines.proofs.Stores.{stored-both}
+use Rattle.lines.proofs.PrintStores.{stored-both}
 use Rattle.paneltest.specs.declared.session.Session.{Session}
-use Rattle.paneltest.specs.declared.session.Ran.{Ran}
+use Rattle.paneltest.specs.declared.session.Progress.{Progress}
 use Rattle.paneltest.specs.Session.{Run, joined, lineRun, byteRun, closeRun, startRun, ran, Leaves}
 
 -- ---- what functions leave, one after another
 
-leaves-joined : {part next : Run} {r s : Ran} {m n : List ℕ} {at : ℕ} {before between after : List ℕ}
+leaves-joined : {part next : Run} {r s : Progress} {m n : List ℕ} {at : ℕ} {before between after : List ℕ}
     → Leaves part r m at before between → Leaves next s n (r .at) between after → Leaves (joined part next) s n at before after
 leaves-joined first second = record { session = second .session; memory-left = second .memory-left; output = stored-both (first .output) (second .output) }
 
@@ -81,7 +81,7 @@ ran-more : (run : Run) (input : List ℕ) (i : ℕ) → i < length input
 unfolding ran
 ran-more run input i h = rw (add-one i, take-suc input i 0 h, ran-append)
 
-pub leaves-more : (run : Run) (input : List ℕ) (i : ℕ) {r s : Ran} {m n : List ℕ} {at : ℕ} {before between after : List ℕ} → i < length input
+pub leaves-more : (run : Run) (input : List ℕ) (i : ℕ) {r s : Progress} {m n : List ℕ} {at : ℕ} {before between after : List ℕ} → i < length input
     → Leaves (ran run (take i input)) r m at before between → Leaves (byteRun (r .session) m (getD input i 0)) s n (r .at) between after
     → Leaves (ran run (take (i + 1) input)) s n at before after
 leaves-more run input i h first second = rw (ran-more run input i h, ← (first .session), ← (first .memory-left)) (leaves-joined first second)
