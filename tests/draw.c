@@ -165,7 +165,7 @@ static uint32_t spoil_value(struct source *from, uint32_t value, uint32_t pages)
 
 static void spoil(struct source *from, struct call *call, uint32_t pages)
 {
-    static const uint32_t ops[] = {0, 16, 17, 18, 255};
+    static const uint32_t ops[] = {0, MODEL_OPERATIONS + 1, MODEL_OPERATIONS + 2, 99, 255};
     switch (below(from, 6)) {
     case 0: call->op = one_in(from, 2) ? PICK(from, ops) : spoil_value(from, call->op, pages); break;
     case 1: call->a = spoil_value(from, call->a, pages); break;

@@ -22,7 +22,7 @@ void draw_state(struct source *from, uint8_t *state, uint32_t pages);
 /* A call for a chip in this state. Most are done; one in eight has some part of it spoiled. */
 struct call draw_call(struct source *from, const uint8_t *state);
 
-/* A call with operands in range for this operation, 1 to 15. */
+/* A call with operands in range for this operation, 1 to MODEL_OPERATIONS. */
 struct call draw_operation(struct source *from, const uint8_t *state, uint32_t op);
 
 /* A call that keeps demand 3's premises. */

@@ -16,6 +16,7 @@ static void same(const char *what, unsigned long long found, unsigned long long 
 }
 
 #define SAME(found, expected) same(#found, (unsigned long long)(found), (unsigned long long)(expected))
+#define COUNT(array) ((int)(sizeof(array) / sizeof *(array)))
 
 static void sizes(void)
 {
@@ -55,13 +56,13 @@ static void lists(void)
                          PANEL_AND_INVERTED,  PANEL_KEEP,        PANEL_XOR,         PANEL_OR,
                          PANEL_NOR,           PANEL_EQUIV,       PANEL_INVERT,      PANEL_OR_REVERSE,
                          PANEL_COPY_INVERTED, PANEL_OR_INVERTED, PANEL_NAND,        PANEL_SET};
-    for (int i = 0; i < 15; i++)
+    for (int i = 0; i < COUNT(operations); i++)
         same("an operation", (unsigned)operations[i], (unsigned)i + 1);
-    for (int i = 0; i < 7; i++)
+    for (int i = 0; i < COUNT(registers); i++)
         same("a register", (unsigned)registers[i], (unsigned)i + 1);
-    for (int i = 0; i < 9; i++)
+    for (int i = 0; i < COUNT(numbers); i++)
         same("a number", (unsigned)numbers[i], (unsigned)i);
-    for (int i = 0; i < 16; i++)
+    for (int i = 0; i < COUNT(codes); i++)
         same("a raster code", (unsigned)codes[i], (unsigned)i);
 }
 

@@ -172,7 +172,7 @@ uint32_t model_number(const uint8_t *state, size_t state_len, size_t memory_len,
         return 1;
     if (memory_len != model_memory_bytes(model_pages(state)))
         return 2;
-    if (call->op < 1 || call->op > 15)
+    if (call->op < 1 || call->op > MODEL_OPERATIONS)
         return 3;
     if (!in_range(call, model_pages(state)))
         return 4;

@@ -21,6 +21,9 @@ uint64_t model_columns(uint8_t *table, size_t len);
 
 enum { MODEL_STATE = 348, MODEL_PAGE = 1280, MODEL_LINE = 80, MODEL_CLOSED = 65535 };
 
+/* The last operation: they are 1 to this. And how many numbers a call may give back, 0 among them. */
+enum { MODEL_OPERATIONS = 15, MODEL_NUMBERS = 9 };
+
 /* A call as it is handed over. */
 struct call {
     uint32_t op, a, b, c, d, data;

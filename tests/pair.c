@@ -15,7 +15,7 @@ enum { SMALL_PAGES = 16, STRETCH = 4096, WHOLE_EVERY = 4096 };
 static const char *phase = "";
 static uint64_t phase_seed;
 static unsigned long run;
-static unsigned long tried[TRIED_KINDS][NUMBERS];
+static unsigned long tried[TRIED_KINDS][MODEL_NUMBERS];
 
 void at_phase(const char *name, uint64_t seed)
 {
@@ -70,7 +70,7 @@ void wrong_at(const struct pair *pair, const struct call *call, const char *fact
 static void count(int kind, uint64_t answer)
 {
     uint64_t number = answer >> 40 & 0xFF;
-    if (number < NUMBERS)
+    if (number < MODEL_NUMBERS)
         tried[kind][number]++;
 }
 
@@ -260,7 +260,7 @@ uint64_t pair_call_lengths(struct pair *pair, const struct call *call, size_t st
     pair->library_answer = panel_call(l->state, state_len, l->memory, memory_len, op, a, b, c, d, call->data);
     pair->model_answer = model_call(m->state, state_len, m->memory, memory_len, op, a, b, c, d, call->data);
     pair->call++;
-    count(op <= 15 ? (int)op : TRIED_NO_OPERATION, pair->model_answer);
+    count(op <= MODEL_OPERATIONS ? (int)op : TRIED_NO_OPERATION, pair->model_answer);
     if (pair->library_answer != pair->model_answer)
         differ(pair, call);
     compare_bytes(pair, call);
@@ -318,11 +318,11 @@ static const char *kind_name(int kind)
 /* Whether a number can be given for a kind at all (document 01, Numbers given back). */
 static bool can_be(int kind, int number)
 {
-    bool operation = kind >= 1 && kind <= 15;
+    bool operation = kind >= 1 && kind <= MODEL_OPERATIONS;
     switch (number) {
     case 0: return kind != TRIED_NO_OPERATION;
     case 1: return kind <= TRIED_SCAN_LINE;
-    case 2: return kind <= 15 || kind == TRIED_SCAN_LINE;
+    case 2: return kind <= MODEL_OPERATIONS || kind == TRIED_SCAN_LINE;
     case 3: return kind == TRIED_NO_OPERATION;
     case 4: return operation || (kind >= TRIED_FRESH && kind != TRIED_COLUMN);
     case 5: return kind == 14;
@@ -336,11 +336,11 @@ bool tried_all(void)
 {
     bool all = true;
     printf("\ncalls by kind and by number given (-: cannot be given)\n%-18s", "");
-    for (int number = 0; number < NUMBERS; number++)
+    for (int number = 0; number < MODEL_NUMBERS; number++)
         printf("%10d", number);
     for (int kind = 0; kind < TRIED_KINDS; kind++) {
         printf("\n%-18s", kind_name(kind));
-        for (int number = 0; number < NUMBERS; number++) {
+        for (int number = 0; number < MODEL_NUMBERS; number++) {
             if (can_be(kind, number))
                 printf("%10lu", tried[kind][number]);
             else
@@ -356,7 +356,7 @@ unsigned long tried_in_total(void)
 {
     unsigned long sum = 0;
     for (int kind = 0; kind < TRIED_KINDS; kind++)
-        for (int number = 0; number < NUMBERS; number++)
+        for (int number = 0; number < MODEL_NUMBERS; number++)
             sum += tried[kind][number];
     return sum;
 }

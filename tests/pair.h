@@ -33,9 +33,16 @@ struct pair {
     size_t stretch;                        /* where the moving compare stands */
 };
 
-/* What is counted: operations 1 to 15 by their number, all others as 0, and the other functions. */
-enum { TRIED_NO_OPERATION, TRIED_FRESH = 16, TRIED_SCAN_LINE, TRIED_POINT, TRIED_COLUMN, TRIED_COLUMNS, TRIED_KINDS };
-enum { NUMBERS = 9 };
+/* What is counted: operations by their number, all others as 0, and the other functions. */
+enum {
+    TRIED_NO_OPERATION,
+    TRIED_FRESH = MODEL_OPERATIONS + 1,
+    TRIED_SCAN_LINE,
+    TRIED_POINT,
+    TRIED_COLUMN,
+    TRIED_COLUMNS,
+    TRIED_KINDS
+};
 
 /* Where a difference would be found: printed in the report. */
 void at_phase(const char *name, uint64_t seed);

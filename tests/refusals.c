@@ -45,7 +45,7 @@ static void open_state(uint8_t *state, uint32_t pages)
 static struct call plain(const uint8_t *state, uint32_t op)
 {
     struct source from = source_of(op);
-    if (op < 1 || op > 15)
+    if (op < 1 || op > MODEL_OPERATIONS)
         return (struct call){op, 0, 0, 0, 0, 0};
     return draw_operation(&from, state, op);
 }
@@ -98,7 +98,7 @@ void try_edges(uint32_t pages)
     uint8_t closed[MODEL_STATE], open[MODEL_STATE];
     make(&pair, pages, closed);
     open_state(open, pages);
-    for (uint32_t op = 0; op <= 18; op++) {
+    for (uint32_t op = 0; op <= MODEL_OPERATIONS + 3; op++) {
         edges_of(&pair, closed, op);
         edges_of(&pair, open, op);
     }
@@ -111,7 +111,7 @@ void try_edges(uint32_t pages)
 
 static void calls_of_lengths(struct pair *pair, const uint8_t *state, size_t state_len, size_t memory_len)
 {
-    for (uint32_t op = 0; op <= 16; op++) {
+    for (uint32_t op = 0; op <= MODEL_OPERATIONS + 1; op++) {
         struct call call = plain(state, op);
         pair_state(pair, state);
         pair_call_lengths(pair, &call, state_len, memory_len);
