@@ -3,10 +3,11 @@ use mathlib.Core.Path.{_≡_, refl, sym, ap, _∙_}
 use mathlib.Core.Bool.{true, false}
 use mathlib.Core.List.{List}
 use Prim.Native.Nat.{ℕ, zero, suc, _^_, _<_, _≤_}
-use lib.Dec.{eqb}
+use lib.Dec.{eqb, leb}
 use lib.ListN.{length, getD}
-use borrow.Author.Tests.{eq-eqb, le-leb}
+use borrow.Author.Tests.{eq-eqb, le-leb, leb-true}
 use Rattle.numbers.specs.Numbers.{first, whenDone}
+use Rattle.numbers.proofs.Tests.{and-left, and-right}
 use Rattle.layout.specs.Memory.{size}
 use Rattle.chip.specs.declared.Call.{Call}
 use Rattle.chip.specs.declared.Answer.{Answer}
@@ -99,3 +100,10 @@ module _ {s memory : List ℕ} (ready : Ready s memory) (x : Call) where
       → memoryAfter (decodeControl s) (pixelsIn s) memory (does s o) ≡ memory → 1 ≤ x .op → x .op ≤ 15
       → a ≡ ownAnswer s x → s' ≡ ownBlock s memory x → Comes s memory x a s' memory
   beside-memory r e l h answers blocks = by-its-line l h answers blocks (untouched s memory x _ _ r e)
+
+  -- and by its number, which the code's match tells
+  pub at-number : {a : Answer} {s' : List ℕ} {o : Operation} {unused : List ℕ} {k : ℕ} → x .op ≡ k → isOperation k ≡ true → (x .op ≡ k → row x ≡ (o, unused))
+      → memoryAfter (decodeControl s) (pixelsIn s) memory (does s o) ≡ memory → (a ≡ ownAnswer s x) × (s' ≡ ownBlock s memory x) → Comes s memory x a s' memory
+  unfolding isOperation
+  at-number {k = k} is known-op line e own = beside-memory (line is) e
+      (rw is (leb-true 1 k (and-left (leb 1 k) (leb k 15) known-op))) (rw is (leb-true k 15 (and-right (leb 1 k) (leb k 15) known-op))) (own .0) (own .1)

@@ -2,3 +2,4 @@ pub mod OwnLines
 pub mod Owns
 pub mod Zeros
 pub mod WellFormed
+pub mod Tested

@@ -9,19 +9,25 @@ use Rattle.panel.proofs.panel_call.Statement.{statement}
 use Rattle.panel.proofs.panel_call.Tie as tie
 
 pack-requires : tie.Need-pack-requires
-pack-requires c κs = rw (c .number .ensures, c .before .before .before .before .before .before .before .act .ensures .0) (number-lt _ _ _)
+pack-requires c κs =
+    let told : tie.After-enum-told = c .before in
+    rw (c .number .ensures, told .before .before .before .before .before .before .act .ensures .0) (number-lt _ _ _)
 
 returns : tie.Need-returns
 unfolding callNumber
 returns c =
-    let act = c .before .before .before .before .before .before .before .before .act in
-    (c .pack .ensures ∙ ap (λ (n : ℕ). packed 0 0 0 n) (c .before .number .ensures) ∙ refused-packed (act .result) _ (c .before .before .enum-told .given .1) ∙ ap packedOf (act .ensures .0), act .ensures .1, act .ensures .2)
+    let told : tie.After-enum-told = c .before .before in
+    let acted : tie.After-act = told .before .before .before .before .before .before in
+    let own = acted .act .ensures in
+    (c .pack .ensures ∙ ap (λ (n : ℕ). packed 0 0 0 n) (c .before .number .ensures) ∙ refused-packed (acted .act .result) _ (told .enum-told .given .1) ∙ ap packedOf (own .0), own .1, own .2)
 
 returns-2 : tie.Need-returns-2
 unfolding callNumber
 returns-2 c =
-    let act = c .before .before .before .before .before .before .before .before .act in
-    (c .pack-done .ensures ∙ sym (ap packedOf (c .before .before .answer .given .1)) ∙ ap packedOf (act .ensures .0), act .ensures .1, act .ensures .2)
+    let told : tie.After-answer = c .before .before in
+    let acted : tie.After-act = told .before .before .before .before .before .before in
+    let own = acted .act .ensures in
+    (c .pack-done .ensures ∙ sym (ap packedOf (told .answer .given .1)) ∙ ap packedOf (own .0), own .1, own .2)
 
 pub panel-call-spec : {M : Type 1} → statement M
 panel-call-spec = tie.close (tie.spec (λ c κs. search needs) (λ c. search needs) (λ c. search needs) (λ c κs. search needs) pack-requires (λ c. search needs) (λ c. search needs) returns (λ c κs. search needs) (λ c. search needs) (λ c. search needs) returns-2)

@@ -1,6 +1,7 @@
--- `panel::panel_fresh` meets its contract. Assumes nothing.
-use mathlib.Core.Path.{ap, _∙_}
-use lib.Dec.{leb}
+-- `panel::panel_fresh`: number 1 for a wrong length, 4 for a wrong P, and past both tests the fresh chip, stored. Assumes nothing.
+use mathlib.Core.Path.{_≡_, ap, _∙_}
+use mathlib.Core.Bool.{true}
+use lib.Dec.{eqb, leb}
 use lib.ListN.{length}
 use native.Mathlib.Omega.{arith}
 use denote.Ref.{now}
@@ -15,6 +16,13 @@ use Rattle.panel.specs.Packs.{numbered, freshGiven}
 use Rattle.panel.proofs.panel_fresh.Statement.{statement}
 use Rattle.panel.proofs.panel_fresh.Tie as tie
 
+-- from the test of P: the function's entry, and the block's length, which is right past the first test
+abbrev entry : tie.After-pages-fit → tie.Start
+entry c = c .before .before .before
+
+long : (c : tie.After-pages-fit) → eqb (length (now (entry c .args .state))) blockBytes ≡ true
+long c = eq-eqb _ blockBytes (c .before .if1 .left)
+
 returns : tie.Need-returns
 unfolding freshGiven numbered freshBlock freshBlockNumber first
 returns c =
@@ -24,22 +32,21 @@ returns c =
 returns-2 : tie.Need-returns-2
 unfolding freshGiven numbered freshBlock freshBlockNumber first
 returns-2 c =
-    let long = eq-eqb (length (now (c .before .before .before .before .before .args .state))) blockBytes (c .before .before .before .if1 .left) in
     let outside = test-fails (c .before .before .pages-fit .ensures) (c .before .if2 .taken) in
-    (c .pack2 .ensures ∙ rw (long, outside), rw (long, outside))
+    (c .pack2 .ensures ∙ rw (long (c .before .before), outside), rw (long (c .before .before), outside))
 
 cast-fresh : tie.Need-cast-fresh
 unfolding pagesFit
 cast-fresh c =
-    let P = c .before .before .before .before .before .args .pages in
+    let P = entry (c .before .before) .args .pages in
     omega (arith, leb-true P 257 (and-right (leb 1 P) (leb P 257) (test-holds (c .before .before .pages-fit .ensures) (c .before .if2 .left))))
 
 returns-3 : tie.Need-returns-3
 unfolding freshGiven numbered freshBlock freshBlockNumber first
 returns-3 c =
-    let long = eq-eqb (length (now (c .before .before .before .before .before .before .before .before .before .before .args .state))) blockBytes (c .before .before .before .before .before .before .before .before .if1 .left) in
-    let inside = test-holds (c .before .before .before .before .before .before .before .pages-fit .ensures) (c .before .before .before .before .before .before .if2 .left) in
-    (c .pack3 .ensures ∙ rw (long, inside), c .before .before .before .store .ensures ∙ rw (long, inside) (ap encode (c .before .before .before .before .fresh .ensures)))
+    let past : tie.Else2 = c .before .before .before .before .before .before in
+    let inside = test-holds (past .before .pages-fit .ensures) (past .if2 .left) in
+    (c .pack3 .ensures ∙ rw (long (past .before), inside), c .before .before .before .store .ensures ∙ rw (long (past .before), inside) (ap encode (c .before .before .before .before .fresh .ensures)))
 
 pub panel-fresh-spec : {M : Type 1} → statement M
 panel-fresh-spec = tie.close (tie.spec (λ c κs. search needs) returns (λ c κs. search needs) (λ c κs. search needs) returns-2 cast-fresh (λ c κs. search needs) (λ c κs. search needs) (λ c κs. search needs) (λ c. search needs) returns-3)

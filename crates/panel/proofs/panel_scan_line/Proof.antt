@@ -1,5 +1,6 @@
--- `panel::panel_scan_line` meets its contract. Assumes nothing.
+-- `panel::panel_scan_line`: number 1 for a block that is not well formed, else the line's number, and with 0 where the line starts. Assumes nothing.
 use mathlib.Core.Path.{_≡_, sym, ap, _∙_}
+use mathlib.Core.Bool.{true}
 use Prim.Native.Nat.{ℕ, zero, suc}
 use native.Mathlib.Omega.{arith}
 use denote.Ref.{now}
@@ -9,6 +10,7 @@ use Rattle.layout.specs.Memory.{size, lineStart}
 use Rattle.numbers.proofs.Tests.{test-holds, test-fails}
 use Rattle.layout.proofs.ScanLines as lines
 use Rattle.chip.specs.Answers.{packed}
+use Rattle.block.specs.Block.{wellFormedBlock}
 use Rattle.block.specs.OnBlock.{blockLineNumber}
 use Rattle.own.proofs.WellFormed.{well-long}
 use Rattle.panel.specs.Packs.{lineOffset}
@@ -29,8 +31,15 @@ returns : tie.Need-returns
 unfolding lineOffset blockLineNumber
 returns c = c .pack .ensures ∙ rw (test-fails (c .before .before .well-formed .ensures) (c .before .if1 .taken))
 
+-- past the test of the block: the function's entry, and that the block is well formed
+abbrev entry : tie.Else1 → tie.Start
+entry c = c .before .before .before .before
+
+well : (c : tie.Else1) → wellFormedBlock (now (entry c .args .state)) ≡ true
+well c = test-holds (c .before .well-formed .ensures) (c .if1 .left)
+
 pages-requires : tie.Need-pages-requires
-pages-requires c κs = well-long (now (c .before .before .before .before .args .state)) (test-holds (c .before .well-formed .ensures) (c .if1 .left))
+pages-requires c κs = well-long (now (entry c .args .state)) (well c)
 
 pack-requires-2 : tie.Need-pack-requires-2
 pack-requires-2 c κs = rw (c .before .line-number .ensures) (line-lt (c .before .before .pages .result) _ _ _ _)
@@ -38,9 +47,9 @@ pack-requires-2 c κs = rw (c .before .line-number .ensures) (line-lt (c .before
 returns-2 : tie.Need-returns-2
 unfolding lineOffset
 returns-2 c =
-    let a = c .before .before .before .before .before .before .before .before .args in
-    let well = test-holds (c .before .before .before .before .before .well-formed .ensures) (c .before .before .before .before .if1 .left) in
-    c .pack2 .ensures ∙ refused _ (line-told (now (a .state)) (now (a .memory)) (a .bank) (a .page) (a .line) well (c .before .before .before .pages .ensures) (c .before .before .line-number .ensures)) (c .before .if2 .taken)
+    let past : tie.Else1 = c .before .before .before .before in
+    let a = entry past .args in
+    c .pack2 .ensures ∙ refused _ (line-told (now (a .state)) (now (a .memory)) (a .bank) (a .page) (a .line) (well past) (c .before .before .before .pages .ensures) (c .before .before .line-number .ensures)) (c .before .if2 .taken)
 
 line-start-requires : tie.Need-line-start-requires
 line-start-requires c κs =
@@ -56,11 +65,10 @@ cast-pack c =
 returns-3 : tie.Need-returns-3
 unfolding lineOffset
 returns-3 c =
-    let a = c .before .before .before .before .before .before .before .before .before .args in
-    let well = test-holds (c .before .before .before .before .before .before .well-formed .ensures) (c .before .before .before .before .before .if1 .left) in
-    let pages = c .before .before .before .before .pages .ensures in
-    c .pack3 .ensures ∙ given (line-told (now (a .state)) (now (a .memory)) (a .bank) (a .page) (a .line) well pages (c .before .before .before .line-number .ensures)) (c .before .before .if2 .left)
-    (c .before .line-start .ensures .0 ∙ ap (λ (P : ℕ). lineStart P (a .bank) (a .page) (a .line)) pages)
+    let paged : tie.After-pages = c .before .before .before .before in
+    let a = entry (paged .before) .args in
+    c .pack3 .ensures ∙ given (line-told (now (a .state)) (now (a .memory)) (a .bank) (a .page) (a .line) (well (paged .before)) (paged .pages .ensures) (c .before .before .before .line-number .ensures)) (c .before .before .if2 .left)
+    (c .before .line-start .ensures .0 ∙ ap (λ (P : ℕ). lineStart P (a .bank) (a .page) (a .line)) (paged .pages .ensures))
 
 pub panel-scan-line-spec : {M : Type 1} → statement M
 panel-scan-line-spec = tie.close (tie.spec (λ c κs. search needs) (λ c κs. search needs) returns pages-requires (λ c. search needs) (λ c κs. search needs) pack-requires-2 returns-2 line-start-requires cast-pack (λ c κs. search needs) returns-3)

@@ -14,8 +14,9 @@ use Rattle.paneltest.proofs.take_turn.Tie as tie
 
 array-share-prefix-output : tie.Need-array-share-prefix-output
 array-share-prefix-output c =
-    let closed = c .before .before .before in
-    let a = closed .before .before .before .before .before .before .before .before .before .before .args in
+    let closed : tie.After-close = c .before .before .before in
+    let counted : tie.After-count = closed .before .before .before .before in
+    let a = counted .before .before .before .before .before .before .args in
     omega (arith, close-room (a .session) (now (a .memory)), closed .close .ensures .output .place)
 
 slice-aggregate-write-all : tie.Need-slice-aggregate-write-all
@@ -23,9 +24,9 @@ slice-aggregate-write-all c = sym (length-take-le _ _ (array-share-prefix-output
 
 array-share-prefix-output-2 : tie.Need-array-share-prefix-output-2
 array-share-prefix-output-2 c =
-    let ran = c .before .before .before in
-    let counted = ran .before .before .before .before .before in
-    let read = counted .before .before .before in
+    let ran : tie.After-run = c .before .before .before in
+    let counted : tie.After-count = ran .before .before .before .before .before in
+    let read : tie.After-read = counted .before .before .before in
     let a = read .before .before .before .args in
     let piece : List ℕ = take (counted .count .result) (read .read .last .1 .0) in
     omega (arith, ran-room (startRun (a .session) (now (a .memory))) piece, ran .run .ensures .output .place)

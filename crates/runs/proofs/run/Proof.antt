@@ -28,8 +28,9 @@ loop-again : tie.Need-loop-again Inv-loop μ-loop
 loop-again c =
     let made = c .before .before .next in
     let asked = c .before .before .before .before .call-at in
-    let was = c .before .before .before .before .before .before .loop in
-    let numbers = c .before .before .before .before .before .before .before .before .before .args .numbers .now in
+    let top = c .before .before .before .before .before .before in
+    let was = top .loop in
+    let numbers = top .before .before .before .args .numbers .now in
     let t = turn numbers (was .memory) (made .last .1 .0) (was .at) (was .ran) (made .result) (asked .result) (omega arith) (asked .ensures)
     (made .ensures .0) (made .ensures .1) in
     (search needs, omega (arith, t .2), search needs, t .0 ∙ was .inv .3, t .1 ∙ was .inv .4)

@@ -16,16 +16,19 @@ given-fits c = search needs
 
 returns : tie.Need-returns
 returns c =
-    let start = c .before .before .before .before .before .before .before .before .before .before .before .before in
+    let acted : tie.After-act = c .before .before .before .before .before in
+    let stored : tie.After-store = acted .before .before .before .before in
+    let start : tie.Start = stored .before .before .before in
     let chip = start .args .chip in
     let m = now (start .args .memory) in
     let x = start .args .x in
     let z = sized chip _ (start .good .0) in
-    let kept = c .before .before .before .before .before .before .before .before .before .store .ensures in
-    let answers = c .before .before .before .before .before .act .ensures .0 ∙ ap (λ (l : List ℕ). blockAnswer l m x) kept ∙ answer-by-value chip z m x in
-    let leaves = c .read .ensures ∙ ap decode (c .before .before .before .before .before .act .ensures .1 ∙ ap (λ (l : List ℕ). blockAfter l m x) kept) ∙ chip-by-value chip z m x (given-fits start) in (
+    let kept = stored .store .ensures in
+    let own = acted .act .ensures in
+    let answers = own .0 ∙ ap (λ (l : List ℕ). blockAnswer l m x) kept ∙ answer-by-value chip z m x in
+    let leaves = c .read .ensures ∙ ap decode (own .1 ∙ ap (λ (l : List ℕ). blockAfter l m x) kept) ∙ chip-by-value chip z m x (given-fits start) in (
       λ i. record { answer = answers i; chip = leaves i },
-      c .before .before .before .before .before .act .ensures .2 ∙ ap (λ (l : List ℕ). blockMemory l m x) kept ∙ memory-by-value chip z m x,
+      own .2 ∙ ap (λ (l : List ℕ). blockMemory l m x) kept ∙ memory-by-value chip z m x,
     )
 
 pub perform-spec : {M : Type 1} → statement M

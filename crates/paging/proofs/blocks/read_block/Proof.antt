@@ -1,5 +1,6 @@
--- `paging::blocks::read_block` meets its contract. Assumes nothing.
-use mathlib.Core.Path.{ap, _∙_}
+-- `paging::blocks::read_block`: refused as its operands' test and its bank's test say; past both the slot holds the block, its tag is 0, and the
+-- counter goes on. Assumes nothing.
+use mathlib.Core.Path.{refl}
 use Prim.Native.Nat.{_<_}
 use native.Mathlib.Omega.{arith}
 use lib.ListN.{getD}
@@ -7,80 +8,87 @@ use lib.Dec.{lit<}
 use denote.Ref.{now}
 use borrow.Author.Needs.{needs}
 use Rattle.layout.specs.Memory.{address}
-use Rattle.numbers.proofs.Tests.{and-left, test-holds, test-fails, equal, unequal}
 use Rattle.bank.specs.Work.{inSlot, loaded}
 use Rattle.chip.specs.State.{openPage, slots}
-use Rattle.chip.specs.Operations.{readBlock, inRange}
+use Rattle.chip.specs.Operations.{inRange}
 use Rattle.chip.specs.Effects.{effect, pixelsAfter}
 use Rattle.chip.specs.Refusals.{asks}
-use Rattle.chip.specs.Answers.{refusalOf}
-use Rattle.chip.proofs.Accepted.{block-range}
-use Rattle.block.specs.Block.{putTag, decodeControl, tickedIn}
+use Rattle.block.specs.Block.{decodeControl}
 use Rattle.bank.proofs.Slots.{slot-inside}
-use Rattle.block.proofs.Puts.{stores-tag, stores-pixels, stores-of, ticks}
-use Rattle.own.proofs.Owns.{outside, by-asks, bank-shut, bank-open, refused, done-answer, done-block}
-use Rattle.own.proofs.WellFormed.{pages-in, page-below}
+use Rattle.block.proofs.Puts.{stores-tag, stores-pixels, stores-of}
+use Rattle.own.proofs.Tested.{operand-outside, closed-refused, open-passes, open-there, block-bounds, as-stored, ends-answer, ends-block}
 use Rattle.own.proofs.OwnLines.{row-read-block}
 use Rattle.paging.proofs.blocks.read_block.Statement.{statement}
 use Rattle.paging.proofs.blocks.read_block.Tie as tie
 
--- the function's entry, from past the test of the operands
-abbrev entry : tie.Else1 → tie.Start
-entry c = c .before .before .before .before
+-- the function's entry, from the test of the operands
+abbrev entry : tie.After-block-fits → tie.Start
+entry c = c .before .before .before
 
--- past that test bank, block and slot are in range
-range : (c : tie.Else1) → (entry c .args .x .a < 4) × (entry c .args .x .b < 40) × (entry c .args .x .c < 8)
-range c = block-range 8 0 _ _ _ (and-left _ _ (test-holds (c .before .block-fits .ensures) (c .if1 .left)))
+-- that test, from the read of the bank
+abbrev tested : tie.After-open-page → tie.Else1
+tested c = c .before .before
+
+-- from the end: the tag put; before it the slot loaded; before that both tests passed
+abbrev tagged : tie.After-slice-known4 → tie.After-put-tag
+tagged c = c .before .before .before .before .before .before
+
+abbrev filled : tie.After-put-tag-arg → tie.After-load-slot
+filled c = c .before .before .before
+
+abbrev passed : tie.After-load-slot → tie.Else2
+passed c = c .before .before
+
+-- past the operands' test bank, block and slot are in range
+range : (c : tie.Else1) → let x = entry (c .before) .args .x in (x .a < 4) × (x .b < 40) × (x .c < 8)
+range c = block-bounds (entry (c .before) .args .x) (c .before .block-fits .ensures) (c .if1 .left)
 
 returns : tie.Need-returns
-unfolding inRange slots refusalOf
+unfolding inRange slots
 returns c =
-    let start = c .before .before .before .before in
-    let s = now (start .args .s) in
-    let x = start .args .x in
-    let res = refused s x (readBlock (x .a) (x .b) (x .c)) _ (row-read-block x (start .pre .3)) (outside (decodeControl s) (readBlock (x .a) (x .b) (x .c)) _ (test-fails (c .before .block-fits .ensures) (c .if1 .taken))) in
+    let start = entry (c .before) in
+    let res = operand-outside (now (start .args .s)) (start .args .x) (row-read-block (start .args .x) (start .pre .3)) (c .before .block-fits .ensures) (c .if1 .taken) in
     (res .0, res .1 _)
 
 open-page-requires : tie.Need-open-page-requires
-open-page-requires c κs = (entry (c .before) .pre .0, range (c .before) .0)
+open-page-requires c κs = (entry (c .before .before) .pre .0, range (c .before) .0)
 
 returns-2 : tie.Need-returns-2
-unfolding inRange slots asks refusalOf
+unfolding inRange slots asks
 returns-2 c =
-    let past = c .before .before .before in
-    let s = now (entry past .args .s) in
-    let x = entry past .args .x in
-    let fits = test-holds (past .before .block-fits .ensures) (past .if1 .left) in
-    let shut = equal (c .before .open-page .ensures) (c .if2 .taken) in
-    let res = refused s x (readBlock (x .a) (x .b) (x .c)) _ (row-read-block x (entry past .pre .3)) (by-asks (decodeControl s) (readBlock (x .a) (x .b) (x .c)) _ fits (bank-shut (decodeControl s) (x .a) shut)) in
+    let fits = tested (c .before) in
+    let start = entry (fits .before) in
+    let res = closed-refused (now (start .args .s)) (start .args .x) (row-read-block (start .args .x) (start .pre .3)) (fits .before .block-fits .ensures) (fits .if1 .left) (c .before .open-page .ensures) refl (c .if2 .taken) in
     (res .0, res .1 _)
 
 load-slot-requires : tie.Need-load-slot-requires
 load-slot-requires c κs =
-    let past = c .before .before .before .before in
-    let s = now (entry past .args .s) in
-    let pre = entry past .pre in
-    let below = page-below s (pre .1) (entry past .args .x .a) (range past .0) (unequal (c .before .before .open-page .ensures) (c .before .if2 .left)) in
-    (pre .0, pre .2, pages-in s (pre .1) .1, range past .0, below, range past .1, range past .2)
+    let past = c .before in
+    let fits = tested (past .before) in
+    let start = entry (fits .before) in
+    let there = open-there (now (start .args .s)) (now (start .args .memory)) (start .args .x .a) (start .pre .1) (start .pre .2) (range fits .0) (past .before .open-page .ensures) (past .if2 .left) in
+    (start .pre .0, there .0, there .1, there .2, there .3, range fits .1, range fits .2)
 
 put-tag-requires : tie.Need-put-tag-requires
-put-tag-requires c κs = (search needs, range (c .before .before .before .before .before .before .before .before) .2)
+put-tag-requires c κs = (search needs, range (tested (passed (filled c) .before)) .2)
 
 returns-3 : tie.Need-returns-3
 unfolding inRange slots asks effect pixelsAfter loaded
 returns-3 c =
-    let past = c .before .before .before .before .before .before .before .before .before .before .before .before .before .before .before in
-    let s = now (entry past .args .s) in
-    let x = entry past .args .x in
-    let fits = test-holds (past .before .block-fits .ensures) (past .if1 .left) in
-    let none = by-asks (decodeControl s) (readBlock (x .a) (x .b) (x .c)) _ fits (bank-open (decodeControl s) (x .a) (unequal (c .before .before .before .before .before .before .before .before .before .before .before .before .before .open-page .ensures) (c .before .before .before .before .before .before .before .before .before .before .before .before .if2 .left))) in
-    let r = row-read-block x (entry past .pre .3) in
+    let done = c .before .before .done in
+    let load = filled (tagged c .before) in
+    let past = passed load in
+    let fits = tested (past .before) in
+    let start = entry (fits .before) in
+    let s = now (start .args .s) in
+    let x = start .args .x in
+    let r = row-read-block x (start .pre .3) in
+    let none = open-passes s x r (fits .before .block-fits .ensures) (fits .if1 .left) (past .before .open-page .ensures) refl (past .if2 .left) in
     let at = address (decodeControl s .pages) (x .a) (openPage (decodeControl s .banks) (x .a)) (x .b) in
-    let start = stores-of s (λ a. omega (arith, past .before .before .before .slice-known .given a)) (entry past .pre .1) in
-    let filled = stores-pixels start 32 (inSlot (x .c)) (λ i was. getD (now (entry past .args .memory)) (at i) 0) (slot-inside (x .c) (range past .2)) in (
-      c .before .before .done .ensures .0 ∙ done-answer s x (readBlock (x .a) (x .b) (x .c)) _ r none,
-      c .before .before .done .ensures .1 ∙ ap tickedIn (c .before .before .before .before .before .before .put-tag .ensures ∙ ap (putTag (x .c) 0) (c .before .before .before .before .before .before .before .before .before .before .load-slot .ensures)) ∙ ticks (stores-tag filled (x .c) 0 (range past .2) (lit< tt))
-          ∙ done-block s x (readBlock (x .a) (x .b) (x .c)) _ r none _,
+    let was = stores-of s (λ a. omega (arith, fits .before .before .before .slice-known .given a)) (start .pre .1) in
+    let held = stores-pixels was 32 (inSlot (x .c)) (λ i old. getD (now (start .args .memory)) (at i) 0) (slot-inside (x .c) (range fits .2)) in (
+      ends-answer s x r none (done .ensures .0),
+      ends-block s x r none _ (done .ensures .1) (as-stored (tagged c .put-tag .ensures) (stores-tag (as-stored (load .load-slot .ensures) held) (x .c) 0 (range fits .2) (lit< tt))),
     )
 
 pub read-block-spec : {M : Type 1} → statement M

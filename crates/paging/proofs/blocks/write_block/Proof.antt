@@ -1,84 +1,89 @@
--- `paging::blocks::write_block` meets its contract. Assumes nothing.
+-- `paging::blocks::write_block`: refused as its operands' test and its bank's test say; past both memory has the slot's tagged bytes, and the answer
+-- says how many they are. Assumes nothing.
 use mathlib.Core.Bool.{false}
-use mathlib.Core.Path.{ap, _∙_}
+use mathlib.Core.Path.{refl, ap, _∙_}
 use Prim.Native.Nat.{_<_, ℕ}
 use native.Mathlib.Omega.{arith}
-use lib.Dec.{eqb}
 use denote.Ref.{now}
 use borrow.Author.Needs.{needs}
-use Rattle.numbers.proofs.Tests.{and-left, test-holds, test-fails, equal, unequal}
 use Rattle.bank.specs.Work.{tagged}
 use Rattle.chip.specs.declared.Answer.the-variants.{Done}
 use Rattle.chip.specs.Effects.{memoryAfter, effect, pixelsAfter}
-use Rattle.chip.specs.Operations.{writeBlock, inRange}
+use Rattle.chip.specs.Operations.{inRange}
 use Rattle.chip.specs.State.{slots}
 use Rattle.chip.specs.Refusals.{asks}
-use Rattle.chip.specs.Answers.{refusalOf}
-use Rattle.chip.proofs.Accepted.{block-range}
-use Rattle.block.specs.Block.{decodeControl}
-use Rattle.block.proofs.Puts.{stores-of, ticks}
-use Rattle.own.proofs.Owns.{done-memory, outside, by-asks, bank-shut, bank-open, refused, done-answer, done-block}
-use Rattle.own.proofs.WellFormed.{pages-in, page-below}
+use Rattle.block.proofs.Puts.{stores-of}
+use Rattle.own.proofs.Tested.{operand-outside, closed-refused, open-passes, open-there, block-bounds, ends-answer, ends-block, ends-memory}
 use Rattle.own.proofs.OwnLines.{row-write-block}
 use Rattle.paging.proofs.blocks.write_block.Statement.{statement}
 use Rattle.paging.proofs.blocks.write_block.Tie as tie
 
--- the function's entry, from past the test of the operands
-abbrev entry : tie.Else1 → tie.Start
-entry c = c .before .before .before .before
+-- the function's entry, from the test of the operands
+abbrev entry : tie.After-block-fits → tie.Start
+entry c = c .before .before .before
 
--- past that test bank, block and slot are in range
-range : (c : tie.Else1) → (entry c .args .x .a < 4) × (entry c .args .x .b < 40) × (entry c .args .x .c < 8)
-range c = block-range 8 0 _ _ _ (and-left _ _ (test-holds (c .before .block-fits .ensures) (c .if1 .left)))
+-- that test, from the read of the bank
+abbrev tested : tie.After-open-page → tie.Else1
+tested c = c .before .before
+
+-- from the end: the tag read; before it the slot written; before that both tests passed
+abbrev counted : tie.After-slice-known4 → tie.After-tag
+counted c = c .before .before .before .before .before
+
+abbrev written : tie.After-tag-arg → tie.After-write-slot
+written c = c .before .before .before
+
+abbrev passed : tie.After-write-slot → tie.Else2
+passed c = c .before .before .before
+
+-- past the operands' test bank, block and slot are in range
+range : (c : tie.Else1) → let x = entry (c .before) .args .x in (x .a < 4) × (x .b < 40) × (x .c < 8)
+range c = block-bounds (entry (c .before) .args .x) (c .before .block-fits .ensures) (c .if1 .left)
 
 returns : tie.Need-returns
-unfolding inRange slots refusalOf
+unfolding inRange slots
 returns c =
-    let start = c .before .before .before .before in
-    let s = now (start .args .s) in
-    let x = start .args .x in
-    let res = refused s x (writeBlock (eqb (x .op) 5) (x .a) (x .b) (x .c)) _ (row-write-block x (start .pre .3) (start .pre .4)) (outside (decodeControl s) (writeBlock (eqb (x .op) 5) (x .a) (x .b) (x .c)) _ (test-fails (c .before .block-fits .ensures) (c .if1 .taken))) in
+    let start = entry (c .before) in
+    let res = operand-outside (now (start .args .s)) (start .args .x) (row-write-block (start .args .x) (start .pre .3) (start .pre .4)) (c .before .block-fits .ensures) (c .if1 .taken) in
     (res .0, res .1 _, res .2 _)
 
 open-page-requires : tie.Need-open-page-requires
-open-page-requires c κs = (entry (c .before) .pre .0, range (c .before) .0)
+open-page-requires c κs = (entry (c .before .before) .pre .0, range (c .before) .0)
 
 returns-2 : tie.Need-returns-2
-unfolding inRange slots asks refusalOf
+unfolding inRange slots asks
 returns-2 c =
-    let past = c .before .before .before in
-    let s = now (entry past .args .s) in
-    let x = entry past .args .x in
-    let fits = test-holds (past .before .block-fits .ensures) (past .if1 .left) in
-    let shut = equal (c .before .open-page .ensures) (c .if2 .taken) in
-    let res = refused s x (writeBlock (eqb (x .op) 5) (x .a) (x .b) (x .c)) _ (row-write-block x (entry past .pre .3) (entry past .pre .4)) (by-asks (decodeControl s) (writeBlock (eqb (x .op) 5) (x .a) (x .b) (x .c)) _ fits (bank-shut (decodeControl s) (x .a) shut)) in
+    let fits = tested (c .before) in
+    let start = entry (fits .before) in
+    let res = closed-refused (now (start .args .s)) (start .args .x) (row-write-block (start .args .x) (start .pre .3) (start .pre .4)) (fits .before .block-fits .ensures) (fits .if1 .left) (c .before .open-page .ensures) refl (c .if2 .taken) in
     (res .0, res .1 _, res .2 _)
 
 write-slot-requires : tie.Need-write-slot-requires
 write-slot-requires c κs =
-    let past = c .before .before .before .before .before in
-    let s = now (entry past .args .s) in
-    let pre = entry past .pre in
-    let below = page-below s (pre .1) (entry past .args .x .a) (range past .0) (unequal (c .before .before .before .open-page .ensures) (c .before .before .if2 .left)) in
-    (pre .0, pre .2, pages-in s (pre .1) .1, range past .0, below, range past .1, range past .2)
+    let past = c .before .before in
+    let fits = tested (past .before) in
+    let start = entry (fits .before) in
+    let there = open-there (now (start .args .s)) (now (start .args .memory)) (start .args .x .a) (start .pre .1) (start .pre .2) (range fits .0) (past .before .open-page .ensures) (past .if2 .left) in
+    (start .pre .0, there .0, there .1, there .2, there .3, range fits .1, range fits .2)
 
 tag-requires : tie.Need-tag-requires
-tag-requires c κs = (entry (c .before .before .before .before .before .before .before .before .before) .pre .0, range (c .before .before .before .before .before .before .before .before .before) .2)
+tag-requires c κs = let fits = tested (passed (written c) .before) in (entry (fits .before) .pre .0, range fits .2)
 
 returns-3 : tie.Need-returns-3
 unfolding inRange slots asks effect pixelsAfter memoryAfter
 returns-3 c =
-    let past = c .before .before .before .before .before .before .before .before .before .before .before .before .before .before .before in
-    let s = now (entry past .args .s) in
-    let x = entry past .args .x in
-    let fits = test-holds (past .before .block-fits .ensures) (past .if1 .left) in
-    let none = by-asks (decodeControl s) (writeBlock (eqb (x .op) 5) (x .a) (x .b) (x .c)) _ fits (bank-open (decodeControl s) (x .a) (unequal (c .before .before .before .before .before .before .before .before .before .before .before .before .before .open-page .ensures) (c .before .before .before .before .before .before .before .before .before .before .before .before .if2 .left))) in
-    let r = row-write-block x (entry past .pre .3) (entry past .pre .4) in
-    let held = stores-of s (λ a. omega (arith, past .before .before .before .slice-known .given a)) (entry past .pre .1) in
-    let ticked-bytes = c .before .before .before .tagged-bytes .ensures ∙ ap tagged (c .before .before .before .before .before .tag .ensures) in (
-      c .before .before .done .ensures .0 ∙ ap (λ (v : ℕ). Done v false false) ticked-bytes ∙ done-answer s x (writeBlock (eqb (x .op) 5) (x .a) (x .b) (x .c)) _ r none,
-      c .before .before .done .ensures .1 ∙ ticks held ∙ done-block s x (writeBlock (eqb (x .op) 5) (x .a) (x .b) (x .c)) _ r none _,
-      c .before .before .before .before .before .before .before .before .before .write-slot .ensures ∙ done-memory s x (writeBlock (eqb (x .op) 5) (x .a) (x .b) (x .c)) _ r none _,
+    let done = c .before .before .done in
+    let wrote = written (counted c .before) in
+    let past = passed wrote in
+    let fits = tested (past .before) in
+    let start = entry (fits .before) in
+    let s = now (start .args .s) in
+    let r = row-write-block (start .args .x) (start .pre .3) (start .pre .4) in
+    let none = open-passes s (start .args .x) r (fits .before .block-fits .ensures) (fits .if1 .left) (past .before .open-page .ensures) refl (past .if2 .left) in
+    let bytes = c .before .before .before .tagged-bytes .ensures ∙ ap tagged (counted c .tag .ensures) in (
+      ends-answer s (start .args .x) r none (done .ensures .0 ∙ ap (λ (v : ℕ). Done v false false) bytes),
+      ends-block s (start .args .x) r none _ (done .ensures .1) (stores-of s (λ a. omega (arith, fits .before .before .before .slice-known .given a)) (start .pre .1)),
+      ends-memory s (start .args .x) r none _ (wrote .write-slot .ensures),
     )
 
 pub write-block-spec : {M : Type 1} → statement M

@@ -1,91 +1,93 @@
--- `paging::pages::duplicate` meets its contract. Assumes nothing.
-use mathlib.Core.Path.{ap₂, ap, _∙_}
-use Prim.Native.Nat.{_<_, _^_, ℕ}
+-- `paging::pages::duplicate`: refused as its operands' test and its bank's test say; past both memory has the open page on the named one, which the
+-- bank then has open. Assumes nothing.
+use mathlib.Core.Path.{refl}
+use Prim.Native.Nat.{_<_, _^_}
 use native.Mathlib.Omega.{arith}
 use denote.Ref.{now}
 use borrow.Author.Needs.{needs}
-use Rattle.layout.specs.Memory.{place}
-use Rattle.numbers.proofs.Tests.{and-left, test-holds, test-fails, equal, unequal}
-use Rattle.bank.specs.Work.{copied}
 use Rattle.chip.specs.Refusals.{asks}
-use Rattle.chip.specs.Answers.{refusalOf}
 use Rattle.chip.specs.Effects.{effect, pixelsAfter, memoryAfter}
-use Rattle.chip.specs.Operations.{duplicate, inRange}
-use Rattle.chip.proofs.Accepted.{page-range}
-use Rattle.block.specs.Block.{decodeControl, tickedIn}
-use Rattle.block.proofs.Puts.{stores-of, stores-page, ticks}
-use Rattle.own.proofs.WellFormed.{pages-in, page-below}
-use Rattle.own.proofs.Owns.{outside, by-asks, bank-shut, bank-open, refused, done-answer, done-block, done-memory}
+use Rattle.chip.specs.Operations.{inRange}
+use Rattle.block.specs.Block.{decodeControl}
+use Rattle.block.proofs.Puts.{stores-of, stores-page}
+use Rattle.own.proofs.WellFormed.{pages-in}
+use Rattle.own.proofs.Tested.{operand-outside, closed-refused, open-passes, open-there, page-bounds, as-stored, ends-answer, ends-block, ends-memory}
 use Rattle.own.proofs.OwnLines.{row-duplicate}
 use Rattle.paging.proofs.pages.duplicate.Statement.{statement}
 use Rattle.paging.proofs.pages.duplicate.Tie as tie
 
--- the function's entry, from past the test of the operands
-abbrev entry : tie.Else1 → tie.Start
-entry c = c .before .before .before .before .before
+-- the function's entry, from the test of the operands
+abbrev entry : tie.After-page-fits → tie.Start
+entry c = c .before .before .before .before
 
--- past that test bank and page are in range
-range : (c : tie.Else1) → (entry c .args .x .a < 4) × (entry c .args .x .b < decodeControl (now (entry c .args .s)) .pages)
-range c = page-range 8 _ _ _ (and-left _ _ (test-holds (c .before .page-fits .ensures) (c .if1 .left)))
+-- that test, from the read of the bank; both tests, from the read of P
+abbrev tested : tie.After-open-page → tie.Else1
+tested c = c .before .before
 
-page-small : (c : tie.Else1) → entry c .args .x .b < 2 ^ 16
-page-small c = omega (arith, range c .1, pages-in (now (entry c .args .s)) (entry c .pre .1) .1)
+abbrev passed : tie.After-pages → tie.Else2
+passed c = c .before .before
+
+-- past the operands' test bank and page are in range
+range : (c : tie.Else1) → let a = entry (c .before) .args in (a .x .a < 4) × (a .x .b < decodeControl (now (a .s)) .pages)
+range c = page-bounds _ (entry (c .before) .args .x) (c .before .page-fits .ensures) (c .if1 .left)
+
+page-small : (c : tie.Else1) → entry (c .before) .args .x .b < 2 ^ 16
+page-small c = omega (arith, range c .1, pages-in (now (entry (c .before) .args .s)) (entry (c .before) .pre .1) .1)
 
 returns : tie.Need-returns
-unfolding inRange refusalOf
+unfolding inRange
 returns c =
-    let start = c .before .before .before .before .before in
-    let s = now (start .args .s) in
-    let x = start .args .x in
-    let res = refused s x (duplicate (x .a) (x .b)) _ (row-duplicate x (start .pre .3)) (outside (decodeControl s) (duplicate (x .a) (x .b)) _ (test-fails (c .before .page-fits .ensures) (c .if1 .taken))) in
+    let start = entry (c .before) in
+    let res = operand-outside (now (start .args .s)) (start .args .x) (row-duplicate (start .args .x) (start .pre .3)) (c .before .page-fits .ensures) (c .if1 .taken) in
     (res .0, res .1 _, res .2 _)
 
 open-page-requires : tie.Need-open-page-requires
-open-page-requires c κs = (entry (c .before) .pre .0, range (c .before) .0)
+open-page-requires c κs = (entry (c .before .before) .pre .0, range (c .before) .0)
 
 returns-2 : tie.Need-returns-2
-unfolding inRange asks refusalOf
+unfolding inRange asks
 returns-2 c =
-    let past = c .before .before .before in
-    let s = now (entry past .args .s) in
-    let x = entry past .args .x in
-    let fits = test-holds (past .before .page-fits .ensures) (past .if1 .left) in
-    let shut = equal (c .before .open-page .ensures) (c .if2 .taken) in
-    let res = refused s x (duplicate (x .a) (x .b)) _ (row-duplicate x (entry past .pre .3)) (by-asks (decodeControl s) (duplicate (x .a) (x .b)) _ fits (bank-shut (decodeControl s) (x .a) shut)) in
+    let fits = tested (c .before) in
+    let start = entry (fits .before) in
+    let res = closed-refused (now (start .args .s)) (start .args .x) (row-duplicate (start .args .x) (start .pre .3)) (fits .before .page-fits .ensures) (fits .if1 .left) (c .before .open-page .ensures) refl (c .if2 .taken) in
     (res .0, res .1 _, res .2 _)
 
 cast-named : tie.Need-cast-named
-cast-named c = omega (arith, page-small (c .before .before .before .before .before .before))
+cast-named c = omega (arith, page-small (tested (passed (c .before) .before)))
 
 copy-page-in-requires : tie.Need-copy-page-in-requires
 copy-page-in-requires c κs =
-    let past = c .before .before .before .before .before .before .before .before in
-    let s = now (entry past .args .s) in
-    let pre = entry past .pre in
-    let from = c .before .before .before .before .before .before .open-page .ensures in
-    let below = page-below s (pre .1) (entry past .args .x .a) (range past .0) (unequal from (c .before .before .before .before .before .if2 .left)) in
-    rw (c .before .before .before .pages .ensures, from) (pre .2, pages-in s (pre .1) .1, range past .0, below, range past .1)
+    let read : tie.After-pages = c .before .before .before in
+    let past : tie.Else2 = read .before .before in
+    let fits = tested (past .before) in
+    let start = entry (fits .before) in
+    let there = open-there (now (start .args .s)) (now (start .args .memory)) (start .args .x .a) (start .pre .1) (start .pre .2) (range fits .0) (past .before .open-page .ensures) (past .if2 .left) in
+    rw (read .pages .ensures, past .before .open-page .ensures) (there .0, there .1, there .2, there .3, range fits .1)
 
 put-page-requires : tie.Need-put-page-requires
-put-page-requires c κs = (entry (c .before .before .before .before .before .before .before .before .before .before .before .before) .pre .0, range (c .before .before .before .before .before .before .before .before .before .before .before .before) .0)
+put-page-requires c κs =
+    let copy : tie.After-copy-page-in = c .before .before .before in
+    let fits = tested (passed (copy .before .before .before .before) .before) in
+    (entry (fits .before) .pre .0, range fits .0)
 
 returns-3 : tie.Need-returns-3
 unfolding inRange asks effect pixelsAfter memoryAfter
 returns-3 c =
-    let past = c .before .before .before .before .before .before .before .before .before .before .before .before .before .before .before .before .before .before .before in
-    let s = now (entry past .args .s) in
-    let x = entry past .args .x in
-    let fits = test-holds (past .before .page-fits .ensures) (past .if1 .left) in
-    let from = c .before .before .before .before .before .before .before .before .before .before .before .before .before .before .before .before .before .open-page .ensures in
-    let none = by-asks (decodeControl s) (duplicate (x .a) (x .b)) _ fits (bank-open (decodeControl s) (x .a) (unequal from (c .before .before .before .before .before .before .before .before .before .before .before .before .before .before .before .before .if2 .left))) in
-    let r = row-duplicate x (entry past .pre .3) in
-    let start = stores-of s (λ a. omega (arith, past .before .before .before .before .slice-known .given a)) (entry past .pre .1) in
-    let held = stores-page start (x .a) (x .b) (range past .0) (page-small past) in (
-      c .before .before .done .ensures .0 ∙ done-answer s x (duplicate (x .a) (x .b)) _ r none,
-      c .before .before .done .ensures .1 ∙ ap tickedIn (c .before .before .before .before .before .before .put-page .ensures) ∙ ticks held ∙ done-block s x (duplicate (x .a) (x .b)) _ r none _,
-      c .before .before .before .before .before .before .before .before .before .before .copy-page-in .ensures
-          ∙ ap₂ (λ (P from : ℕ). copied (place P (x .a) from) (place P (x .a) (x .b)) (now (entry past .args .memory))) (c .before .before .before .before .before .before .before .before .before .before .before .before .before .before .pages .ensures) from
-          ∙ done-memory s x (duplicate (x .a) (x .b)) _ r none _,
+    let done = c .before .before .done in
+    let put : tie.After-put-page = c .before .before .before .before .before .before in
+    let copy : tie.After-copy-page-in = put .before .before .before .before in
+    let read : tie.After-pages = copy .before .before .before .before in
+    let past : tie.Else2 = read .before .before in
+    let fits = tested (past .before) in
+    let start = entry (fits .before) in
+    let s = now (start .args .s) in
+    let x = start .args .x in
+    let r = row-duplicate x (start .pre .3) in
+    let none = open-passes s x r (fits .before .page-fits .ensures) (fits .if1 .left) (past .before .open-page .ensures) refl (past .if2 .left) in
+    let was = stores-of s (λ a. omega (arith, fits .before .before .before .before .slice-known .given a)) (start .pre .1) in (
+      ends-answer s x r none (done .ensures .0),
+      ends-block s x r none _ (done .ensures .1) (as-stored (put .put-page .ensures) (stores-page was (x .a) (x .b) (range fits .0) (page-small fits))),
+      ends-memory s x r none _ (rw (read .pages .ensures, past .before .open-page .ensures) at (copy .copy-page-in .ensures)),
     )
 
 pub duplicate-spec : {M : Type 1} → statement M

@@ -8,9 +8,10 @@ use Rattle.paneltest.proofs.session.end_line.Tie as tie
 returns : tie.Need-returns
 unfolding lineRun
 returns c =
-    let told = c .before .before .before .before .before in
-    let chip = told .before .before .before .before .before .before .before .args .session .chip in
-    rw (sym (told .before .before .finish .ensures) ∙ told .enum-told .given .1)
+    let told : tie.After-enum-told = c .before .before .before .before .before in
+    let finished : tie.After-finish = told .before .before in
+    let chip = finished .before .before .before .before .before .args .session .chip in
+    rw (sym (finished .finish .ensures) ∙ told .enum-told .given .1)
     (record {
       session = λ i. record { chip = chip; reader = c .start .ensures i };
       memory-left = refl;

@@ -28,9 +28,10 @@ loop-holds c = (omega arith, omega arith, refl, refl, record { session = refl; m
 
 loop-again : tie.Need-loop-again Inv-loop μ-loop
 loop-again c =
-    let done = c .before .before .before .before in
-    let at = done .before .before .before .before .before .before .loop in
-    let a = done .before .before .before .before .before .before .before .before .before .before .args in
+    let done : tie.After-take-byte Inv-loop μ-loop = c .before .before .before .before in
+    let top = done .before .before .before .before .before .before in
+    let at = top .loop in
+    let a = top .before .before .before .before .args in
     let less : at .i < length (a .input .now) = omega arith in
     let room = byte-room (at .here .session) (at .memory) (getD (a .input .now) (at .i) 0) in (
       omega arith,
