@@ -1,7 +1,7 @@
 -- A data write's outcome, put into the block, is what the definitions say of the write. Assumes nothing.
 use mathlib.Core.Path.{_≡_, refl, sym, ap, _∙_, subst}
 use mathlib.Core.Bool.{Bool, true, false, cond, not, _&&_, _||_, or-true, or-false}
-use mathlib.Core.List.{List}
+use mathlib.Core.List.{List, []}
 use Prim.Native.Nat.{ℕ, _+_, _*_, _%_, _^_, _<_}
 use native.Mathlib.Nat.{mod-lt}
 use native.Mathlib.Omega.{arith}
@@ -15,26 +15,31 @@ use Rattle.pixel.specs.declared.Outcome.{Outcome}
 use Rattle.pixel.specs.Registers.{register, freshRegisters}
 use Rattle.pixel.specs.Writes.{used, intoSlot, intoWord, hits, newByte, outcomeOf}
 use Rattle.pixel.proofs.Outcomes.{byte-outcome, taken-lt, into-slot-lt, into-word-lt}
-use Rattle.numbers.proofs.Tests.{and-left}
+use Rattle.numbers.specs.Numbers.{first}
+use Rattle.numbers.proofs.Tests.{and-left, test-holds}
 use Rattle.lists.specs.Words.{putWord}
 use Rattle.bank.specs.Work.{inSlot}
 use Rattle.lists.proofs.Words.{word-at-once, part-bytes}
 use Rattle.chip.specs.declared.Control.{Control}
 use Rattle.chip.specs.declared.Call.{Call}
+use Rattle.chip.specs.declared.Answer.{Answer}
 use Rattle.chip.specs.declared.Answer.the-variants.{Done}
 use Rattle.chip.specs.State.{slots}
-use Rattle.chip.specs.Operations.{dataWrite}
+use Rattle.chip.specs.Operations.{row, allZero, dataWrite, inRange}
 use Rattle.chip.specs.Painting.{painted, marked, tagWith}
 use Rattle.chip.specs.Changes.{tagOf, withTag, withHit, ticked}
 use Rattle.chip.specs.Effects.{slotByte, reading, effect, pixelsAfter}
 use Rattle.chip.specs.Answers.{doneAnswer}
+use Rattle.chip.specs.Refusals.{asks}
+use Rattle.chip.proofs.Accepted.{write-range}
 use Rattle.chip.proofs.Tags.{mark-law}
 use Rattle.chip.proofs.SlotWords.{slot-word}
 use Rattle.block.specs.Block.{flagsAt, encode, decodeControl, wellFormedBlock, pixelsIn, pixelsAt, pixelBytes}
 use Rattle.block.proofs.Puts.{Stores, stores-of, stores-tag, stores-flags, stores-word, ticks, control-stored}
 use Rattle.lists.proofs.Rows.{words-lt}
-use Rattle.own.specs.Own.{hitMarked, settled}
+use Rattle.own.specs.Own.{ownAnswer, ownBlock, hitMarked, settled}
 use Rattle.own.proofs.OwnLines.{asked}
+use Rattle.own.proofs.Owns.{by-asks, done-answer, done-block}
 
 -- ---- the destination's word
 
@@ -101,7 +106,18 @@ module _ {s : List ℕ} {c : Control} {pixels : List ℕ} (h : Stores s c pixels
       kept true l = lit< tt
       kept false l = l
 
--- a data write of either kind: what it leaves of a well formed block
+-- past the test of a data write's operands they are in range
+pub write-in-range : (P : ℕ) (w : Write) {fits : Bool} → fits ≡ (inRange 8 P (dataWrite w) && allZero []) → not fits ≡ false
+    → (w .slot < 8) × (w .word < 8) × (w .enables < 16) × (w .passin < 4)
+write-in-range P w told left = write-range 8 P w (and-left (inRange 8 P (dataWrite w)) (allZero []) (test-holds told left))
+
+-- what a data write of either kind answers: pass and written of the outcome, whatever stands at its destination
+write-answers : (s : List ℕ) (w : Write) (dest : ℕ) → (let o = outcomeOf (decodeControl s .registers) w (wordIn (slotByte (pixelsIn s) (w .slot)) (w .word)) dest in
+    Done 0 (o .pass) (o .written) ≡ doneAnswer (effect slots (decodeControl s) (dataWrite w) (reading (slotByte (pixelsIn s)) (dataWrite w))))
+unfolding effect reading outcomeOf
+write-answers s w dest = refl
+
+-- what it leaves of a well formed block
 module _ (s : List ℕ) (bytes : (a : ℕ) → getD s a 0 < 2 ^ 8) (well : wellFormedBlock s ≡ true) (w : Write) where
   abbrev registers : List ℕ
   registers = decodeControl s .registers
@@ -115,7 +131,7 @@ module _ (s : List ℕ) (bytes : (a : ℕ) → getD s a 0 < 2 ^ 8) (well : wellF
   abbrev at : ℕ
   at = intoWord registers w
 
-  pub write-leaves : w .slot < 8 → w .word < 8 → w .enables < 16 → (memory : List ℕ)
+  write-leaves : w .slot < 8 → w .word < 8 → w .enables < 16 → (memory : List ℕ)
       → settled w slot at (outcomeOf registers w old (wordIn (slotByte (pixelsIn s) slot) at)) s ≡ encode (record {
         control = ticked (effect slots (decodeControl s) (dataWrite w) (reading (slotByte (pixelsIn s)) (dataWrite w)) .control);
         pixels = pixelsAfter (decodeControl s) (pixelsIn s) memory (effect slots (decodeControl s) (dataWrite w) (reading (slotByte (pixelsIn s)) (dataWrite w)) .move);
@@ -129,11 +145,18 @@ module _ (s : List ℕ) (bytes : (a : ℕ) → getD s a 0 < 2 ^ 8) (well : wellF
         pixels = l;
       })) (painted-word registers w old slot (pixelsIn s) (unfold pixelsIn in part-bytes pixelsAt pixelBytes s bytes))
 
--- what it answers: pass and written of the outcome, whatever stands at its destination
-pub write-answers : (s : List ℕ) (w : Write) (dest : ℕ) → (let o = outcomeOf (decodeControl s .registers) w (wordIn (slotByte (pixelsIn s) (w .slot)) (w .word)) dest in
-    Done 0 (o .pass) (o .written) ≡ doneAnswer (effect slots (decodeControl s) (dataWrite w) (reading (slotByte (pixelsIn s)) (dataWrite w))))
-unfolding effect reading outcomeOf
-write-answers s w dest = refl
+  -- past the test of its operands the call is done, and `settle` ends it with the outcome at its destination
+  pub write-done : (x : Call) → row x ≡ (dataWrite w, []) → {fits : Bool} → fits ≡ (inRange slots (decodeControl s .pages) (dataWrite w) && allZero []) → not fits ≡ false
+      → {read : List ℕ} → read ≡ registers → {to word : ℕ} {o : Outcome} → to ≡ intoSlot 8 read w → word ≡ intoWord read w → o ≡ outcomeOf read w old (wordIn (slotByte (pixelsIn s) to) word)
+      → {answer : Answer} {after : List ℕ} → (answer ≡ Done 0 (o .pass) (o .written)) × (after ≡ settled w to word o s)
+      → (answer ≡ ownAnswer s x) × ((memory : List ℕ) → after ≡ ownBlock s memory x)
+  unfolding slots asks first
+  write-done x r told left same {to} {word} there here drew ends =
+      let none = by-asks (decodeControl s) (dataWrite w) [] (test-holds told left) refl in
+      let range = write-in-range (decodeControl s .pages) w told left in (
+        ends .0 ∙ ap (λ (o : Outcome). Done 0 (o .pass) (o .written)) (drew ∙ ap (λ (l : List ℕ). outcomeOf l w old (wordIn (slotByte (pixelsIn s) to) word)) same) ∙ write-answers s w (wordIn (slotByte (pixelsIn s) to) word) ∙ done-answer s x (dataWrite w) [] r none,
+        λ memory. ends .1 ∙ rw (drew, there, here, same) (write-leaves (range .0) (range .1) (range .2) memory ∙ done-block s x (dataWrite w) [] r none memory),
+      )
 
 -- a stateless write goes where its operands say
 pub stateless-slot : (registers : List ℕ) (initial : Bool) (x : Call) → intoSlot 8 registers (asked true initial x) ≡ x .a

@@ -1,2 +1,3 @@
 pub mod Settings
+pub mod InPlace
 pub mod Draws

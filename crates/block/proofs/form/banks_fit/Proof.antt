@@ -1,5 +1,5 @@
 -- `block::form::banks_fit` meets its contract: each of the four open pages is tested. Assumes nothing.
-use mathlib.Core.Bool.{Bool}
+use mathlib.Core.Bool.{Bool, true}
 use mathlib.Core.Path.{_≡_, sym, ap₂, _∙_}
 use Prim.Native.Nat.{ℕ}
 use denote.Ref.{now}
@@ -15,33 +15,53 @@ use Rattle.block.proofs.form.banks_fit.Tie as tie
 abbrev fits : tie.After-pages → ℕ → Bool
 fits c bank = pageFits (decodeControl (now (c .before .before .args .s)) .pages) (openPage (decodeControl (now (c .before .before .args .s)) .banks) bank)
 
--- what the first three tests answer
-first : (c : tie.After-page-fits) → c .page-fits .result ≡ fits (c .before .before) 0
-first c = c .page-fits .ensures ∙ ap₂ pageFits (c .before .before .pages .ensures) (c .before .open-page .ensures)
+-- that is what a test answers
+answered : (c : tie.After-pages) (bank : ℕ) {page : ℕ} {answer : Bool} → answer ≡ pageFits (c .pages .result) page
+    → page ≡ openPage (decodeControl (now (c .before .before .args .s)) .banks) bank → answer ≡ fits c bank
+answered c bank told read = told ∙ ap₂ pageFits (c .pages .ensures) read
 
-second : (c : tie.After-page-fits2) → c .page-fits2 .result ≡ fits (c .before .before .before .before .before) 1
-second c = c .page-fits2 .ensures ∙ ap₂ pageFits (c .before .before .before .before .before .pages .ensures) (c .before .open-page2 .ensures)
+-- where P is known, from past each of the first three tests
+abbrev past1 : tie.Else1 → tie.After-pages
+past1 c = c .before .before .before
 
-third : (c : tie.After-page-fits3) → c .page-fits3 .result ≡ fits (c .before .before .before .before .before .before .before .before) 2
-third c = c .page-fits3 .ensures ∙ ap₂ pageFits (c .before .before .before .before .before .before .before .before .pages .ensures) (c .before .open-page3 .ensures)
+abbrev past2 : tie.Else2 → tie.After-pages
+past2 c = past1 (c .before .before .before)
+
+abbrev past3 : tie.Else3 → tie.After-pages
+past3 c = past2 (c .before .before .before)
+
+-- what they told
+first : (c : tie.Else1) → fits (past1 c) 0 ≡ true
+first c = test-holds (answered (past1 c) 0 (c .before .page-fits .ensures) (c .before .before .open-page .ensures)) (c .if1 .left)
+
+second : (c : tie.Else2) → fits (past2 c) 1 ≡ true
+second c = test-holds (answered (past2 c) 1 (c .before .page-fits2 .ensures) (c .before .before .open-page2 .ensures)) (c .if2 .left)
+
+third : (c : tie.Else3) → fits (past3 c) 2 ≡ true
+third c = test-holds (answered (past3 c) 2 (c .before .page-fits3 .ensures) (c .before .before .open-page3 .ensures)) (c .if3 .left)
 
 returns : tie.Need-returns
 unfolding every
-returns c = sym (rw (test-fails (first (c .before)) (c .if1 .taken)))
+returns c = sym (rw (test-fails (answered (c .before .before .before) 0 (c .before .page-fits .ensures) (c .before .before .open-page .ensures)) (c .if1 .taken)))
 
 returns-2 : tie.Need-returns-2
 unfolding every
-returns-2 c = sym (rw (test-holds (first (c .before .before .before .before)) (c .before .before .before .if1 .left), test-fails (second (c .before)) (c .if2 .taken)))
+returns-2 c =
+    let past = c .before .before .before in
+    sym (rw (first past, test-fails (answered (past1 past) 1 (c .before .page-fits2 .ensures) (c .before .before .open-page2 .ensures)) (c .if2 .taken)))
 
 returns-3 : tie.Need-returns-3
 unfolding every
-returns-3 c = sym (rw (test-holds (first (c .before .before .before .before .before .before .before)) (c .before .before .before .before .before .before .if1 .left), test-holds (second (c .before .before .before .before)) (c .before .before .before .if2 .left), test-fails (third (c .before)) (c .if3 .taken)))
+returns-3 c =
+    let past = c .before .before .before in
+    sym (rw (first (past .before .before .before), second past, test-fails (answered (past2 past) 2 (c .before .page-fits3 .ensures) (c .before .before .open-page3 .ensures)) (c .if3 .taken)))
 
 returns-4 : tie.Need-returns-4
 unfolding every
 returns-4 c =
-    c .page-fits4 .ensures ∙ ap₂ pageFits (c .before .before .before .before .before .before .before .before .before .before .before .pages .ensures) (c .before .open-page4 .ensures)
-    ∙ sym (rw (test-holds (first (c .before .before .before .before .before .before .before .before .before)) (c .before .before .before .before .before .before .before .before .if1 .left), test-holds (second (c .before .before .before .before .before .before)) (c .before .before .before .before .before .if2 .left), test-holds (third (c .before .before .before)) (c .before .before .if3 .left)))
+    let past = c .before .before in
+    let before = past .before .before .before in
+    answered (past3 past) 3 (c .page-fits4 .ensures) (c .before .open-page4 .ensures) ∙ sym (rw (first (before .before .before .before), second before, third past))
 
 pub banks-fit-spec : {M : Type 1} → statement M
 banks-fit-spec = tie.close (tie.spec (λ c κs. search needs) (λ c κs. search needs) (λ c κs. search needs) returns (λ c κs. search needs) (λ c κs. search needs) returns-2 (λ c κs. search needs) (λ c κs. search needs) returns-3 (λ c κs. search needs) (λ c κs. search needs) returns-4)

@@ -29,12 +29,19 @@ tested c =
     let s = now (c .before .args .s) in
     register-test (wordsAt 7 s 24) (words-lt s (λ a. omega (arith, c .shared-slice-known .given a)) 7 24)
 
--- what the first two tests answer
+-- where the block is known, from past the first test and the second
+abbrev past1 : tie.Else1 → tie.After-shared-slice-known
+past1 c = c .before .before .before
+
+abbrev past2 : tie.Else2 → tie.After-shared-slice-known
+past2 c = past1 (c .before .before .before)
+
+-- what the two tests answer
 fifth : (c : tie.After-within) → c .within .result ≡ within (held (c .before .before) 4) 0x2f2f_2f2f
 unfolding register
 fifth c = c .within .ensures ∙ ap (λ (x : ℕ). within x 0x2f2f_2f2f) (c .before .register .ensures)
 
-sixth : (c : tie.After-within2) → c .within2 .result ≡ within (held (c .before .before .before .before .before) 5) 0x0003_0707
+sixth : (c : tie.After-within2) → c .within2 .result ≡ within (held (past1 (c .before .before)) 5) 0x0003_0707
 unfolding register
 sixth c = c .within2 .ensures ∙ ap (λ (x : ℕ). within x 0x0003_0707) (c .before .register2 .ensures)
 
@@ -42,13 +49,17 @@ returns : tie.Need-returns
 returns c = sym (tested (c .before .before .before) ∙ rw (test-fails (fifth (c .before)) (c .if1 .taken)))
 
 returns-2 : tie.Need-returns-2
-returns-2 c = sym (tested (c .before .before .before .before .before .before) ∙ rw (test-holds (fifth (c .before .before .before .before)) (c .before .before .before .if1 .left), test-fails (sixth (c .before)) (c .if2 .taken)))
+returns-2 c =
+    let past = c .before .before .before in
+    sym (tested (past1 past) ∙ rw (test-holds (fifth (past .before)) (past .if1 .left), test-fails (sixth (c .before)) (c .if2 .taken)))
 
 returns-3 : tie.Need-returns-3
 unfolding register
 returns-3 c =
+    let past = c .before .before in
+    let before = past .before .before .before in
     c .within3 .ensures ∙ ap (λ (x : ℕ). within x 1) (c .before .register3 .ensures)
-    ∙ sym (tested (c .before .before .before .before .before .before .before .before) ∙ rw (test-holds (fifth (c .before .before .before .before .before .before)) (c .before .before .before .before .before .if1 .left), test-holds (sixth (c .before .before .before)) (c .before .before .if2 .left)))
+    ∙ sym (tested (past2 past) ∙ rw (test-holds (fifth (before .before)) (before .if1 .left), test-holds (sixth (past .before)) (past .if2 .left)))
 
 pub registers-fit-spec : {M : Type 1} → statement M
 registers-fit-spec = tie.close (tie.spec (λ c κs. search needs) (λ c κs. search needs) returns (λ c κs. search needs) (λ c κs. search needs) returns-2 (λ c κs. search needs) (λ c κs. search needs) returns-3)

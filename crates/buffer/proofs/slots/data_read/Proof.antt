@@ -1,23 +1,21 @@
--- `buffer::slots::data_read` meets its contract. Assumes nothing.
-use mathlib.Core.Bool.{false}
+-- `buffer::slots::data_read` meets its contract: it puts nothing, and its value is the word read. Assumes nothing.
 use mathlib.Core.Path.{refl, ap, _∙_}
-use Prim.Native.Nat.{_<_, ℕ}
+use Prim.Native.Nat.{_<_}
 use native.Mathlib.Omega.{arith}
 use denote.Ref.{now}
 use borrow.Author.Needs.{needs}
-use Rattle.numbers.proofs.Tests.{and-left, test-holds, test-fails}
-use Rattle.chip.specs.declared.Answer.the-variants.{Done}
-use Rattle.chip.specs.Effects.{reading, effect, pixelsAfter}
-use Rattle.chip.specs.Operations.{dataRead, inRange}
-use Rattle.chip.specs.State.{slots}
+use Rattle.numbers.proofs.Tests.{and-left, test-holds}
 use Rattle.numbers.specs.Numbers.{first}
+use Rattle.chip.specs.State.{slots}
+use Rattle.chip.specs.Operations.{dataRead, inRange}
+use Rattle.chip.specs.Effects.{still, giving, reading, effect}
 use Rattle.chip.specs.Refusals.{asks}
-use Rattle.chip.specs.Answers.{refusalOf}
 use Rattle.chip.proofs.Accepted.{word-range}
 use Rattle.block.specs.Block.{decodeControl}
-use Rattle.block.proofs.Puts.{stores-of, ticks}
+use Rattle.block.proofs.Puts.{stores-of}
 use Rattle.own.proofs.OwnLines.{row-data-read}
-use Rattle.own.proofs.Owns.{outside, by-asks, refused, done-answer, done-block}
+use Rattle.own.proofs.Owns.{by-asks}
+use Rattle.buffer.proofs.InPlace.{operands-refused, put-done}
 use Rattle.buffer.proofs.slots.data_read.Statement.{statement}
 use Rattle.buffer.proofs.slots.data_read.Tie as tie
 
@@ -30,30 +28,25 @@ range : (c : tie.Else1) → (entry c .args .x .a < 8) × (entry c .args .x .b < 
 range c = word-range 8 0 _ _ (and-left _ _ (test-holds (c .before .word-fits .ensures) (c .if1 .left)))
 
 returns : tie.Need-returns
-unfolding inRange slots refusalOf
+unfolding inRange slots
 returns c =
     let start = c .before .before .before in
-    let s = now (start .args .s) in
     let x = start .args .x in
-    let res = refused s x (dataRead (x .a) (x .b)) _ (row-data-read x (start .pre .2)) (outside (decodeControl s) (dataRead (x .a) (x .b)) _ (test-fails (c .before .word-fits .ensures) (c .if1 .taken))) in
-    (res .0, res .1)
+    operands-refused (now (start .args .s)) x (dataRead (x .a) (x .b)) _ (row-data-read x (start .pre .2)) (c .before .word-fits .ensures) (c .if1 .taken)
 
 slot-word-requires : tie.Need-slot-word-requires
 slot-word-requires c κs = (entry (c .before) .pre .0, range (c .before) .0, range (c .before) .1)
 
 returns-2 : tie.Need-returns-2
-unfolding inRange slots asks first effect reading pixelsAfter
+unfolding inRange slots asks first effect reading
 returns-2 c =
-    let past = c .before .before .before .before .before .before in
+    let read = c .before .before .before .before in
+    let past = read .before .before in
     let s = now (entry past .args .s) in
     let x = entry past .args .x in
-    let fits = test-holds (past .before .word-fits .ensures) (past .if1 .left) in
-    let none = by-asks (decodeControl s) (dataRead (x .a) (x .b)) _ fits refl in
-    let r = row-data-read x (entry past .pre .2) in
-    let held = stores-of s (λ a. omega (arith, past .before .before .slice-known .given a)) (entry past .pre .1) in (
-      c .before .before .done .ensures .0 ∙ ap (λ (v : ℕ). Done v false false) (c .before .before .before .before .slot-word .ensures) ∙ done-answer s x (dataRead (x .a) (x .b)) _ r none,
-      λ memory. c .before .before .done .ensures .1 ∙ ticks held ∙ done-block s x (dataRead (x .a) (x .b)) _ r none memory,
-    )
+    let none = by-asks (decodeControl s) (dataRead (x .a) (x .b)) _ (test-holds (past .before .word-fits .ensures) (past .if1 .left)) refl in
+    put-done s x (dataRead (x .a) (x .b)) _ (row-data-read x (entry past .pre .2)) none
+    (stores-of s (λ a. omega (arith, past .before .before .slice-known .given a)) (entry past .pre .1)) (ap (λ v. giving v (decodeControl s) still) (read .slot-word .ensures)) (c .before .before .done .ensures)
 
 pub data-read-spec : {M : Type 1} → statement M
 data-read-spec = tie.close (tie.spec (λ c κs. search needs) returns slot-word-requires (λ c κs. search needs) (λ c. search needs) returns-2)

@@ -1,6 +1,6 @@
--- `buffer::writes::stateless_write` meets its contract. Assumes nothing.
+-- `buffer::writes::stateless_write` meets its contract: its outcome is that of any registers, its destination that of its operands. Assumes nothing.
 use mathlib.Core.Bool.{true}
-use mathlib.Core.Path.{_≡_, refl, ap, _∙_}
+use mathlib.Core.Path.{refl, sym, ap, _∙_}
 use Prim.Native.Nat.{_<_}
 use native.Mathlib.Omega.{arith}
 use lib.Dec.{eqb}
@@ -8,21 +8,14 @@ use denote.Ref.{now}
 use borrow.Author.Needs.{needs}
 use Rattle.bits.specs.Bits.{wordIn}
 use Rattle.pixel.specs.declared.Write.{Write}
-use Rattle.pixel.specs.declared.Outcome.{Outcome}
 use Rattle.pixel.specs.Writes.{outcomeOf}
-use Rattle.numbers.proofs.Tests.{and-left, test-holds, test-fails}
-use Rattle.chip.specs.declared.Answer.the-variants.{Done}
 use Rattle.chip.specs.Effects.{slotByte}
 use Rattle.chip.specs.Operations.{dataWrite, inRange}
 use Rattle.chip.specs.State.{slots}
-use Rattle.numbers.specs.Numbers.{first}
-use Rattle.chip.specs.Refusals.{asks}
-use Rattle.chip.specs.Answers.{refusalOf}
-use Rattle.chip.proofs.Accepted.{write-range}
 use Rattle.block.specs.Block.{decodeControl, pixelsIn}
 use Rattle.own.proofs.OwnLines.{asked, row-stateless}
-use Rattle.own.proofs.Owns.{outside, by-asks, refused, done-answer, done-block}
-use Rattle.buffer.proofs.Draws.{stateless-slot, stateless-word, write-leaves, write-answers}
+use Rattle.buffer.proofs.InPlace.{operands-refused}
+use Rattle.buffer.proofs.Draws.{stateless-slot, stateless-word, write-in-range, write-done}
 use Rattle.buffer.proofs.writes.stateless_write.Statement.{statement}
 use Rattle.buffer.proofs.writes.stateless_write.Tie as tie
 
@@ -37,17 +30,13 @@ write c = asked true (eqb (c .args .x .op) 8) (c .args .x)
 -- past that test its operands are in range
 range : (c : tie.Else1) → (let w = write (entry c) in (w .slot < 8) × (w .word < 8) × (w .enables < 16) × (w .passin < 4))
 unfolding inRange
-range c = write-range 8 0 (write (entry c)) (and-left _ _ (test-holds (c .before .write-fits .ensures) (c .if1 .left)))
+range c = write-in-range 0 (write (entry c)) (c .before .write-fits .ensures) (c .if1 .left)
 
 returns : tie.Need-returns
-unfolding inRange slots refusalOf
+unfolding inRange slots
 returns c =
     let start = c .before .before .before in
-    let s = now (start .args .s) in
-    let x = start .args .x in
-    let o = dataWrite (write start) in
-    let res = refused s x o _ (row-stateless x (start .pre .2) (start .pre .3)) (outside (decodeControl s) o _ (test-fails (c .before .write-fits .ensures) (c .if1 .taken))) in
-    (res .0, res .1)
+    operands-refused (now (start .args .s)) (start .args .x) (dataWrite (write start)) _ (row-stateless (start .args .x) (start .pre .2) (start .pre .3)) (c .before .write-fits .ensures) (c .if1 .taken)
 
 slot-word-requires : tie.Need-slot-word-requires
 slot-word-requires c κs = let past = c .before .before in (entry past .pre .0, range past .0, range past .1)
@@ -56,24 +45,19 @@ settle-requires : tie.Need-settle-requires
 settle-requires c κs = let past = c .before .before .before .before .before in (entry past .pre .0, range past .0, range past .1)
 
 returns-2 : tie.Need-returns-2
-unfolding inRange slots asks first
+unfolding inRange slots
 returns-2 c =
-    let past = c .before .before .before .before .before .before .before .before in
-    let s = now (entry past .args .s) in
-    let x = entry past .args .x in
-    let w = write (entry past) in
-    let fits = test-holds (past .before .write-fits .ensures) (past .if1 .left) in
-    let none = by-asks (decodeControl s) (dataWrite w) _ fits refl in
-    let r = row-stateless x (entry past .pre .2) (entry past .pre .3) in
-    let regs = decodeControl s .registers in
+    let drew = c .before .before .before .before in
+    let past = drew .before .before .before .before in
+    let start = entry past in
+    let s = now (start .args .s) in
+    let x = start .args .x in
+    let w = write start in
+    let registers = decodeControl s .registers in
     let old = wordIn (slotByte (pixelsIn s) (x .a)) (x .b) in
-    let drew : c .before .before .before .before .stateless .result ≡ outcomeOf regs w old old
-    = c .before .before .before .before .stateless .ensures regs old ∙ ap (outcomeOf regs w old) (c .before .before .before .before .before .slot-word .ensures) in
-    let leaves = write-leaves s (λ a. omega (arith, past .before .before .slice-known .given a)) (entry past .pre .1) w (range past .0) (range past .1) (range past .2) in (
-      c .before .before .settle .ensures .0 ∙ ap (λ (o : Outcome). Done 0 (o .pass) (o .written)) drew ∙ write-answers s w _ ∙ done-answer s x (dataWrite w) _ r none,
-      λ memory. c .before .before .settle .ensures .1 ∙ rw drew
-          (rw (stateless-slot regs (eqb (x .op) 8) x, stateless-word regs (eqb (x .op) 8) x) at (leaves memory) ∙ done-block s x (dataWrite w) _ r none memory),
-    )
+    write-done s (λ a. omega (arith, past .before .before .slice-known .given a)) (start .pre .1) w x (row-stateless x (start .pre .2) (start .pre .3)) (past .before .write-fits .ensures) (past .if1 .left)
+    refl (sym (stateless-slot registers (eqb (x .op) 8) x)) (sym (stateless-word registers (eqb (x .op) 8) x))
+    (drew .stateless .ensures registers old ∙ ap (outcomeOf registers w old) (drew .before .slot-word .ensures)) (c .before .before .settle .ensures)
 
 pub stateless-write-spec : {M : Type 1} → statement M
 stateless-write-spec = tie.close (tie.spec (λ c κs. search needs) returns slot-word-requires (λ c κs. search needs) settle-requires (λ c. search needs) returns-2)
