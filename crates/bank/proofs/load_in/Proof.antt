@@ -6,9 +6,11 @@ use Rattle.bank.proofs.load_in.Tie as tie
 
 returns : tie.Need-returns
 returns c =
-    let a = c .before .before .before .before .before .before .before .before .args in
-    let start = c .before .before .before .before .before .bank-start in
-    rw (c .before .before .load .ensures)
+    let loaded = c .before .before in
+    let located = loaded .before .before .before in
+    let start = located .bank-start in
+    let a = located .before .before .before .args in
+    rw (loaded .load .ensures)
     (rw (← (start .ensures .0)) at (load-part (a .pages) (a .bank) (a .page) (a .block) (a .slot) (a .memory .now) (a .pixels .now)))
 
 pub load-in-spec : {M : Type 1} → statement M
