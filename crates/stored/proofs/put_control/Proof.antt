@@ -22,15 +22,24 @@ registers-long c = search needs
 tags-long : (c : tie.Start) → length (c .args .control .tags) ≡ 8
 tags-long c = search needs
 
--- the function's entry, from the places where arrays are lent
+-- the function's entry, from where the flags' word is known, and from the places where arrays are lent
+abbrev by-flags : tie.After-flags → tie.Start
+by-flags c = c .before .before .before .before .before
+
+abbrev by-header : tie.After-header2 → tie.Start
+by-header c = by-flags (c .before .before .before)
+
 abbrev by-banks : tie.After-banks2 → tie.Start
-by-banks c = c .before .before .before .before .before .before .before .before .before .before .before .before .before
+by-banks c = by-header (c .before .before .before .before .before)
 
 abbrev by-registers : tie.After-registers2 → tie.Start
 by-registers c = by-banks (c .before .before .before .before .before)
 
+abbrev by-flags-and-counter : tie.After-flags-and-counter → tie.Start
+by-flags-and-counter c = by-registers (c .before .before .before .before .before)
+
 abbrev by-tags : tie.After-tags2 → tie.Start
-by-tags c = by-registers (c .before .before .before .before .before .before .before .before .before .before)
+by-tags c = by-flags-and-counter (c .before .before .before .before .before)
 
 put-halves-requires-2 : tie.Need-put-halves-requires-2
 put-halves-requires-2 c κs = omega (arith, banks-long (by-banks c))
@@ -52,9 +61,10 @@ returns c =
     let registers = flagged .before .before .before .before .before in
     let banks = registers .before .before .before .before .before in
     let headed = banks .before .before .before .before .before in
-    let start = by-tags (tags .before) in
-    control-stored (start .args .control) (headed .before .before .before .before .flags .result) (now (start .args .s)) (banks-long start) (registers-long start)
-    (headed .before .before .before .before .flags .ensures) (headed .put-halves .ensures ∙ ap (λ (l : List ℕ). sets (now (start .args .s)) 0 (halves l)) (headed .before .before .before .before .before .before .before .header .ensures)) (banks .put-halves2 .ensures) (registers .put-words .ensures)
+    let known = headed .before .before .before .before in
+    let start = by-flags known in
+    control-stored (start .args .control) (known .flags .result) (now (start .args .s)) (banks-long start) (registers-long start) (known .flags .ensures)
+    (headed .put-halves .ensures ∙ ap (λ (l : List ℕ). sets (now (start .args .s)) 0 (halves l)) (known .before .before .before .header .ensures)) (banks .put-halves2 .ensures) (registers .put-words .ensures)
     (flagged .put-words2 .ensures) (tags .put-words3 .ensures)
 
 pub put-control-spec : {M : Type 1} → statement M

@@ -9,15 +9,16 @@ use Rattle.stored.proofs.tags.Tie as tie
 returns : tie.Need-returns
 unfolding tagOf decodeControl rowAt
 returns c =
+    let four = c .before .before .before .before in
     rw (
       c .tag8 .ensures,
       c .before .tag7 .ensures,
       c .before .before .tag6 .ensures,
       c .before .before .before .tag5 .ensures,
-      c .before .before .before .before .tag4 .ensures,
-      c .before .before .before .before .before .tag3 .ensures,
-      c .before .before .before .before .before .before .tag2 .ensures,
-      c .before .before .before .before .before .before .before .tag .ensures,
+      four .tag4 .ensures,
+      four .before .tag3 .ensures,
+      four .before .before .tag2 .ensures,
+      four .before .before .before .tag .ensures,
     )
 
 pub tags-spec : {M : Type 1} → statement M
