@@ -43,14 +43,16 @@ put-digits-requires t c κs =
 
 put-byte-requires-2 : (t : ℕ) → put-digits-lts.Need-put-byte-requires-2 (put-byte-reads.Asked, put-byte-reads.Learnt, below t, put-digits.Post) (given t) put-digits.Post
 put-byte-requires-2 t c κs =
-    let x = c .before .before .before .before .before .before .before .args .x in
+    let tenth = c .before .before .before in
+    let x = tenth .before .before .before .before .args .x in
     omega (arith, one-longer x (omega arith) (omega arith))
 
 returns-2 : (t : ℕ) → put-digits-lts.Need-returns-2 (put-byte-reads.Asked, put-byte-reads.Learnt, below t, put-digits.Post) (given t) put-digits.Post
 returns-2 t c =
-    let a = c .before .before .before .before .before .before .before .before .before .before .args in
-    rw (digits-tenth (a .x) (omega arith) (omega arith))
-    (stored-both (c .before .before .before .before .before .before .put-digits .ensures) (c .before .before .put-byte2 .ensures))
+    let last = c .before .before in
+    let tenth = last .before .before .before .before in
+    let x = tenth .before .before .before .before .args .x in
+    rw (digits-tenth x (omega arith) (omega arith)) (stored-both (tenth .put-digits .ensures) (last .put-byte2 .ensures))
 
 pub +put-digits-spec : {M : Type 1} → statement M
 +put-digits-spec = close μ-put-digits (λ t.
