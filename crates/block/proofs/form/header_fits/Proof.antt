@@ -1,6 +1,5 @@
 -- `block::form::header_fits` meets its contract: a pair of fields is one word. Assumes nothing.
-use mathlib.Core.Bool.{true, _&&_}
-use mathlib.Core.List.{List}
+use mathlib.Core.Bool.{_&&_}
 use mathlib.Core.Path.{_≡_, sym, ap, _∙_}
 use Prim.Native.Nat.{ℕ}
 use native.Mathlib.Omega.{arith}
@@ -14,44 +13,37 @@ use Rattle.numbers.proofs.Tests.{equal, unequal}
 use Rattle.block.proofs.form.header_fits.Statement.{statement}
 use Rattle.block.proofs.form.header_fits.Tie as tie
 
--- the block
-abbrev block : tie.After-shared-slice-known → List ℕ
-block c = now (c .before .args .s)
-
 -- the test, as code makes it
-tested : (c : tie.After-shared-slice-known) → same (halvesAt 8 (block c) 0) (header (halfAt (block c) 0))
-    ≡ (eqb (halfAt (block c) 2) 8
-    && (eqb (wordAt (block c) 4) (pair banksAt registersAt) && (eqb (wordAt (block c) 8) (pair flagsAt tagsAt) && eqb (wordAt (block c) 12) (pair pixelsAt blockBytes))))
-tested c = header-test (block c) (λ a. omega (arith, c .shared-slice-known .given a))
-
--- where the block is known, from past the first test and the second
-abbrev past1 : tie.Else1 → tie.After-shared-slice-known
-past1 c = c .before .before
-
-abbrev past2 : tie.Else2 → tie.After-shared-slice-known
-past2 c = past1 (c .before .before)
-
--- what they told
-one : (c : tie.Else1) → eqb (halfAt (block (past1 c)) 2) 8 ≡ true
-one c = equal (c .before .half-at .ensures) (c .if1 .left)
-
-two : (c : tie.Else2) → eqb (wordAt (block (past2 c)) 4) (pair banksAt registersAt) ≡ true
-two c = equal (c .before .word-at .ensures) (c .if2 .left)
+tested : (c : tie.After-shared-slice-known) → same (halvesAt 8 (now (c .before .args .s)) 0) (header (halfAt (now (c .before .args .s)) 0))
+    ≡ (eqb (halfAt (now (c .before .args .s)) 2) 8
+    && (eqb (wordAt (now (c .before .args .s)) 4) (pair banksAt registersAt)
+    && (eqb (wordAt (now (c .before .args .s)) 8) (pair flagsAt tagsAt) && eqb (wordAt (now (c .before .args .s)) 12) (pair pixelsAt blockBytes))))
+tested c = header-test (now (c .before .args .s)) (λ a. omega (arith, c .shared-slice-known .given a))
 
 returns : tie.Need-returns
 returns c = sym (tested (c .before .before) ∙ rw (unequal (c .before .half-at .ensures) (c .if1 .taken)))
 
 returns-2 : tie.Need-returns-2
-returns-2 c = let past = c .before .before in sym (tested (past1 past) ∙ rw (one past, unequal (c .before .word-at .ensures) (c .if2 .taken)))
+returns-2 c =
+    let one = equal (c .before .before .before .half-at .ensures) (c .before .before .if1 .left) in
+    sym (tested (c .before .before .before .before) ∙ rw (one, unequal (c .before .word-at .ensures) (c .if2 .taken)))
 
 returns-3 : tie.Need-returns-3
-returns-3 c = let past = c .before .before in sym (tested (past2 past) ∙ rw (one (past .before .before), two past, unequal (c .before .word-at2 .ensures) (c .if3 .taken)))
+returns-3 c =
+    let past2 = c .before .before in
+    let past1 = past2 .before .before in
+    let one = equal (past1 .before .half-at .ensures) (past1 .if1 .left) in
+    let two = equal (past2 .before .word-at .ensures) (past2 .if2 .left) in
+    sym (tested (past1 .before .before) ∙ rw (one, two, unequal (c .before .word-at2 .ensures) (c .if3 .taken)))
 
 returns-4 : tie.Need-returns-4
 returns-4 c =
-    let past = c .before .before .before in
+    let past2 = c .before .before .before in
+    let past1 = past2 .before .before in
+    let one = equal (past1 .before .half-at .ensures) (past1 .if1 .left) in
+    let two = equal (past2 .before .word-at .ensures) (past2 .if2 .left) in
     let three = equal (c .before .before .word-at2 .ensures) (c .before .if3 .left) in
-    ap (λ (x : ℕ). eqb x (pair pixelsAt blockBytes)) (c .word-at3 .ensures) ∙ sym (tested (past2 past) ∙ rw (one (past .before .before), two past, three))
+    ap (λ (x : ℕ). eqb x (pair pixelsAt blockBytes)) (c .word-at3 .ensures) ∙ sym (tested (past1 .before .before) ∙ rw (one, two, three))
 
 pub header-fits-spec : {M : Type 1} → statement M
 header-fits-spec = tie.close (tie.spec (λ c κs. search needs) returns (λ c κs. search needs) returns-2 (λ c κs. search needs) returns-3 (λ c κs. search needs) returns-4)
