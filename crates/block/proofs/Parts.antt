@@ -5,7 +5,7 @@ use mathlib.Core.List.{[], _∷_, flatten}
 use Prim.Native.Nat.{ℕ, _+_, _-_, _*_, _%_, _^_, _<_, _≤_}
 use native.Mathlib.Omega.{arith}
 use lib.Dec.{lit<}
-use lib.ListN.{length, getD, set, drop, length-append}
+use lib.ListN.{length, getD, drop, length-append}
 use Rattle.bits.specs.Bits.{digit}
 use Rattle.lists.specs.Update.{update}
 use Rattle.lists.specs.Words.{putHalf, putWord}
@@ -13,33 +13,9 @@ use Rattle.lists.proofs.Seams.{startOf, put-in, start-long, split-at}
 use Rattle.lists.proofs.Rows.{length-row, half-put-in, word-put-in}
 use Rattle.chip.specs.declared.Control.{Control}
 use Rattle.chip.specs.declared.Chip.{Chip}
-use Rattle.chip.specs.Changes.{withPage, withTag, ticked}
+use Rattle.chip.specs.Changes.{withPage, withTag, withFlags, withStored, ticked}
 use Rattle.block.specs.Block.{banksAt, registersAt, flagsAt, tagsAt, pixelsAt, blockBytes, pageAt, registerAt, counterAt, tagAt, header, flags, controlParts, parts, encode, putTag}
 use Rattle.block.proofs.Sized.{Sized}
-
--- ---- the parts of a chip that one put changes
-
-abbrev pub holding : Control → ℕ → ℕ → Control
-holding c number value = record {
-  pages = c .pages;
-  banks = c .banks;
-  registers = set (c .registers) (number - 1) value;
-  picking = c .picking;
-  hit = c .hit;
-  counter = c .counter;
-  tags = c .tags;
-}
-
-abbrev pub flagging : Control → Bool → Bool → Control
-flagging c picking hit = record {
-  pages = c .pages;
-  banks = c .banks;
-  registers = c .registers;
-  picking = picking;
-  hit = hit;
-  counter = c .counter;
-  tags = c .tags;
-}
 
 -- this chip with another control part
 abbrev pub under : Chip → Control → Chip
@@ -80,11 +56,11 @@ module _ (chip : Chip) (z : Sized chip) where
   unfolding encode parts controlParts flags
   page-put b p hb = half-put-in 1 (parts chip) (lit< tt) (c .banks) refl b p (pageAt b) (rw (z .banks .long) hb) (rw (starts .0))
 
-  pub register-put : (n v : ℕ) → 1 ≤ n → n ≤ 7 → putWord (registerAt n) v (encode chip) ≡ encode (under chip (holding c n v))
+  pub register-put : (n v : ℕ) → 1 ≤ n → n ≤ 7 → putWord (registerAt n) v (encode chip) ≡ encode (under chip (withStored c n v))
   unfolding encode parts controlParts flags
   register-put n v l h = word-put-in 2 (parts chip) (lit< tt) (c .registers) refl (n - 1) v (registerAt n) (rw (z .registers .long) (omega arith)) (rw (starts .1))
 
-  pub flags-put : (p k : Bool) → putWord flagsAt (digit p + digit k * 2) (encode chip) ≡ encode (under chip (flagging c p k))
+  pub flags-put : (p k : Bool) → putWord flagsAt (digit p + digit k * 2) (encode chip) ≡ encode (under chip (withFlags c p k))
   unfolding encode parts controlParts flags
   flags-put p k = word-put-in 3 (parts chip) (lit< tt) (flags c ∷ c .counter ∷ []) refl 0 (digit p + digit k * 2) flagsAt (lit< tt) (rw (starts .2))
 

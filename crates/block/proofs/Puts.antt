@@ -12,10 +12,10 @@ use Rattle.lists.specs.Words.{putHalf, putWord}
 use Rattle.lists.proofs.Updates.{length-update, update-at}
 use Rattle.chip.specs.declared.Control.{Control}
 use Rattle.chip.specs.declared.Chip.{Chip}
-use Rattle.chip.specs.Changes.{withPage, withTag, ticked}
+use Rattle.chip.specs.Changes.{withPage, withTag, withFlags, withStored, ticked}
 use Rattle.block.specs.Block.{pageAt, registerAt, flagsAt, counterAt, pixelsAt, encode, decodeControl, pixelsIn, decode, putTag, tickedIn, wellFormedBlock}
 use Rattle.block.proofs.Sized.{listed-set, Sized, resized}
-use Rattle.block.proofs.Parts.{holding, flagging, page-put, register-put, flags-put, counter-put, tag-put, pixels-put}
+use Rattle.block.proofs.Parts.{page-put, register-put, flags-put, counter-put, tag-put, pixels-put}
 use Rattle.block.proofs.RoundTrip.{control-read, decoded-sized, encode-decode, well-parts}
 
 -- the block of a sized chip
@@ -40,13 +40,13 @@ module _ {s : List ℕ} {c : Control} {pixels : List ℕ} (h : Stores s c pixels
     is = ap (putHalf (pageAt b) p) (h .is) ∙ page-put chip (h .sized) b p hb;
   }
 
-  pub stores-register : (n v : ℕ) → 1 ≤ n → n ≤ 7 → v < 2 ^ 32 → Stores (putWord (registerAt n) v s) (holding c n v) pixels
+  pub stores-register : (n v : ℕ) → 1 ≤ n → n ≤ 7 → v < 2 ^ 32 → Stores (putWord (registerAt n) v s) (withStored c n v) pixels
   stores-register n v ln hn hv = record {
     sized = resized (h .sized) (h .sized .banks) (listed-set (h .sized .registers) (n - 1) v hv) (h .sized .counter-fits) (h .sized .tags) (h .sized .pixels-long);
     is = ap (putWord (registerAt n) v) (h .is) ∙ register-put chip (h .sized) n v ln hn;
   }
 
-  pub stores-flags : (p k : Bool) → Stores (putWord flagsAt (digit p + digit k * 2) s) (flagging c p k) pixels
+  pub stores-flags : (p k : Bool) → Stores (putWord flagsAt (digit p + digit k * 2) s) (withFlags c p k) pixels
   stores-flags p k = record {
     sized = resized (h .sized) (h .sized .banks) (h .sized .registers) (h .sized .counter-fits) (h .sized .tags) (h .sized .pixels-long);
     is = ap (putWord flagsAt (digit p + digit k * 2)) (h .is) ∙ flags-put chip (h .sized) p k;

@@ -4,7 +4,7 @@ use mathlib.Core.Bool.{Bool, true, false, _&&_, false≢true}
 use mathlib.Core.List.{List, [], _∷_, flatten}
 use Prim.Native.Nat.{ℕ, zero, suc, _+_, _*_, _%_, _^_, _<_}
 use native.Mathlib.Omega.{arith}
-use native.Mathlib.Nat.{lt-trans}
+use native.Mathlib.Nat.{lt-trans, mod-eq-of-lt}
 use lib.Bits.{bitAnd, and-mask}
 use lib.Dec.{eqb, lit<}
 use lib.ListN.{length, getD, take, drop, length-drop}
@@ -31,9 +31,6 @@ flags-four true false = lit< tt
 flags-four false true = lit< tt
 flags-four false false = lit< tt
 
-pub flags-lt : (p h : Bool) → digit p + digit h * 2 < 2 ^ 32
-flags-lt p h = lt-trans (flags-four p h) (lit< tt)
-
 pub flag-0 : (p h : Bool) → bit (digit p + digit h * 2) 0 ≡ p
 unfolding bit
 flag-0 true true = refl
@@ -50,13 +47,7 @@ flag-1 false false = refl
 
 flags-within : (c : Control) → within (flags c) 3 ≡ true
 unfolding flags within
-flags-within c = go (c .picking) (c .hit)
-  where
-    go : (p h : Bool) → eqb (bitAnd (digit p + digit h * 2) 3) (digit p + digit h * 2) ≡ true
-    go true true = refl
-    go true false = refl
-    go false true = refl
-    go false false = refl
+flags-within c = eq-eqb _ _ (and-mask (flags c) 2 ∙ mod-eq-of-lt (flags-four (c .picking) (c .hit)))
 
 same-self : (xs : List ℕ) → same xs xs ≡ true
 unfolding same
@@ -87,7 +78,7 @@ module _ (chip : Chip) (z : Sized chip) where
 
   flags-fit : (j : ℕ) → getD (flags c ∷ c .counter ∷ []) j 0 < 2 ^ 32
   unfolding flags
-  flags-fit zero = flags-lt (c .picking) (c .hit)
+  flags-fit zero = lt-trans (flags-four (c .picking) (c .hit)) (lit< tt)
   flags-fit (suc zero) = z .counter-fits
   flags-fit (suc (suc j)) = lit< tt
 

@@ -8,6 +8,7 @@ use Rattle.lists.specs.Update.{update}
 use Rattle.lists.proofs.Updates.{update-all}
 use Rattle.chip.specs.declared.Control.{Control}
 use Rattle.chip.specs.declared.Chip.{Chip}
+use Rattle.chip.specs.Changes.{withParts}
 use Rattle.block.specs.Block.{pixelBytes}
 
 -- n numbers, each below m
@@ -34,16 +35,5 @@ pub record Sized (chip : Chip) : Type 0 where
 pub resized : {c : Control} {pixels : List ℕ} → Sized (record { control = c; pixels = pixels })
     → {banks registers tags pixels' : List ℕ} {picking hit : Bool} {counter : ℕ}
     → Listed 4 (2 ^ 16) banks → Listed 7 (2 ^ 32) registers → counter < 2 ^ 32 → Listed 8 (2 ^ 32) tags → length pixels' ≡ pixelBytes
-    → Sized (record {
-      control = record {
-        pages = c .pages;
-        banks = banks;
-        registers = registers;
-        picking = picking;
-        hit = hit;
-        counter = counter;
-        tags = tags;
-      };
-      pixels = pixels';
-    })
+    → Sized (record { control = withParts c banks registers picking hit counter tags; pixels = pixels' })
 resized z b r k t p = record { pages-fit = z .pages-fit; banks = b; registers = r; counter-fits = k; tags = t; pixels-long = p }

@@ -27,7 +27,7 @@ use Rattle.chip.specs.declared.Answer.the-variants.{Done}
 use Rattle.chip.specs.State.{slots}
 use Rattle.chip.specs.Operations.{row, allZero, dataWrite, inRange}
 use Rattle.chip.specs.Painting.{painted, marked, tagWith}
-use Rattle.chip.specs.Changes.{tagOf, withTag, withHit, ticked}
+use Rattle.chip.specs.Changes.{tagOf, withTag, withFlags, withHit, ticked}
 use Rattle.chip.specs.Effects.{slotByte, reading, effect, pixelsAfter}
 use Rattle.chip.specs.Answers.{doneAnswer}
 use Rattle.chip.specs.Refusals.{asks}
@@ -65,15 +65,7 @@ painted-word registers w old slot pixels bytes =
 flags-put : {s : List ℕ} {c : Control} {pixels : List ℕ} → Stores s c pixels → (b : Bool) → (b ≡ true → c .picking ≡ true)
     → Stores (cond b (putWord flagsAt 3 s) s) (withHit c (c .hit || b)) pixels
 flags-put {s} {c} {pixels} h true on =
-    subst (λ (k : Control). Stores (putWord flagsAt 3 s) k pixels) (λ i. record {
-      pages = c .pages;
-      banks = c .banks;
-      registers = c .registers;
-      picking = sym (on refl) i;
-      hit = sym (or-true (c .hit)) i;
-      counter = c .counter;
-      tags = c .tags;
-    }) (stores-flags h true true)
+    subst (λ (k : Control). Stores (putWord flagsAt 3 s) k pixels) (λ i. withFlags c (sym (on refl) i) (sym (or-true (c .hit)) i)) (stores-flags h true true)
 flags-put {s} {c} {pixels} h false on = subst (λ (b : Bool). Stores s (withHit c b) pixels) (sym (or-false (c .hit))) h
 
 pub held-hit : {s : List ℕ} {c : Control} {pixels : List ℕ} (sets : Bool) → Stores s c pixels

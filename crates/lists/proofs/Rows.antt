@@ -43,10 +43,9 @@ over w x y =
 pub length-row : (w : ℕ) (xs : List ℕ) → length (row w xs) ≡ w * length xs
 unfolding row
 length-row w [] = omega arith
-length-row w (x ∷ xs) = length-append (bytesFrom w 0 x) (row w xs) ∙ ap₂ _+_ (length-bytes w 0 x) (length-row w xs) ∙ sym (more w (length xs))
-  where
-    more : (w n : ℕ) → w * suc n ≡ w + w * n
-    more w n = rw (mul-suc w n) (omega arith)
+length-row w (x ∷ xs) =
+    let more : w + w * length xs ≡ w * suc (length xs) = rw (mul-suc w (length xs)) (omega arith) in
+    length-append (bytesFrom w 0 x) (row w xs) ∙ ap₂ _+_ (length-bytes w 0 x) (length-row w xs) ∙ more
 
 pub length-row-at : (w : ℕ) (reads : List ℕ → ℕ → ℕ) (n : ℕ) (s : List ℕ) (p : ℕ) → length (rowAt w reads n s p) ≡ n
 unfolding rowAt
@@ -121,13 +120,9 @@ module _ (w : ℕ) (reads : List ℕ → ℕ → ℕ) (s : List ℕ)
 
 -- ---- of 16 bits
 
-half-bytes : (x : ℕ) → x < 2 ^ 16 → byte x 0 + byte x 1 * 2 ^ 8 ≡ x
-unfolding byte
-half-bytes x h = omega arith
-
 pub half-read : (pre : List ℕ) (x : ℕ) (rest : List ℕ) → x < 2 ^ 16 → halfAt (pre ++ (bytesFrom 2 0 x ++ rest)) (length pre) ≡ x
 unfolding halfAt bytesFrom
-half-read pre x rest h = rw (getD-append-seam, getD-append-add) (half-bytes x h)
+half-read pre x rest h = rw (getD-append-seam, getD-append-add) (unfold byte in omega arith)
 
 byte-half-0 : (a b : ℕ) → a < 2 ^ 8 → byte (a + b * 2 ^ 8) 0 ≡ a
 unfolding byte

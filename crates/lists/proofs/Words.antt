@@ -1,7 +1,7 @@
 -- The laws of a number of 16 or of 32 bits in a list of bytes: its bytes, what is put and then read, and a loop that puts words. Assumes nothing.
 use mathlib.Core.Path.{_≡_, sym, ap, _∙_}
 use mathlib.Core.List.{List, [], _∷_}
-use Prim.Native.Nat.{ℕ, zero, suc, _+_, _*_, _/_, _%_, _^_, _<_, _≤_}
+use Prim.Native.Nat.{ℕ, zero, suc, _+_, _*_, _/_, _%_, _^_, _<_}
 use native.Mathlib.Nat.{add-zero, zero-add, add-assoc, mul-add, div-one, mod-eq-of-lt}
 use native.Mathlib.Omega.{arith}
 use lib.Dec.{lit<}
@@ -9,11 +9,10 @@ use lib.ListN.{length, getD, set, take, drop}
 use lib.Pow.{shr-lt}
 use lib.Seq.{getD-take, getD-drop}
 use Rattle.bits.specs.Bits.{byte, wordIn}
-use Rattle.bits.proofs.Bytes.{join-bytes, joined-lt, byte-word-in}
-use Rattle.bits.proofs.Laws.{byte-lt}
+use Rattle.bits.proofs.Bytes.{joined-lt, byte-word-in}
 use Rattle.lists.specs.Update.{update}
 use Rattle.lists.specs.Words.{halfAt, putHalf, wordAt, putWord}
-use Rattle.lists.proofs.Updates.{length-update, update-same, update-at, update-ext, update-more, update-all}
+use Rattle.lists.proofs.Updates.{length-update, update-at, update-ext, update-more}
 
 -- the byte stores of code, one after the other
 pub half-stores : (p x : ℕ) (s : List ℕ) → x < 2 ^ 16 → set (set s p (x % 256)) (p + 1) (x / 256) ≡ putHalf p x s
@@ -58,10 +57,12 @@ part-bytes k n s bytes = front-bytes n (drop k s) (λ a. rw (getD-drop k s a 0) 
 -- a part's word is the whole's
 pub word-part : (k n q : ℕ) (s : List ℕ) → q + 3 < n → wordAt (take n (drop k s)) q ≡ wordAt s (k + q)
 unfolding wordAt
-word-part k n q s h = rw (in-part q (omega arith), in-part (q + 1) (omega arith), in-part (q + 2) (omega arith), in-part (q + 3) (omega arith)) (simp (getD-drop, add-assoc))
-  where
-    in-part : (i : ℕ) → i < n → getD (take n (drop k s)) i 0 ≡ getD (drop k s) i 0
-    in-part i l = getD-take n (drop k s) i 0 l
+word-part k n q s h = rw (
+  getD-take n (drop k s) q 0 (omega arith),
+  getD-take n (drop k s) (q + 1) 0 (omega arith),
+  getD-take n (drop k s) (q + 2) 0 (omega arith),
+  getD-take n (drop k s) (q + 3) 0 (omega arith),
+) (simp (getD-drop, add-assoc))
 
 -- a word put leaves the length
 pub length-put-word : (p x : ℕ) (s : List ℕ) → length (putWord p x s) ≡ length s

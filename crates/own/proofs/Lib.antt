@@ -1,5 +1,3 @@
 pub mod OwnLines
 pub mod Owns
-pub mod Zeros
 pub mod WellFormed
-pub mod Tested

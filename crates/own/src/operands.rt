@@ -7,52 +7,34 @@ ghost use lib.Dec.{leb, ltb};
 ghost use Rattle.chip.specs.Operations.{allZero};
 ghost use Rattle.block.specs.Block.{IsBlock, decodeControl};
 
-fn two_zero(a: u32, b: u32) -> bool
-    ensures { λ r. ⌜ r ≡ allZero (a ∷ b ∷ []) ⌝ }
-{
-    (a == 0) & (b == 0)
-}
-
-fn three_zero(a: u32, b: u32, c: u32) -> bool
-    ensures { λ r. ⌜ r ≡ allZero (a ∷ b ∷ c ∷ []) ⌝ }
-{
-    (a == 0) & (b == 0) & (c == 0)
-}
-
-fn four_zero(a: u32, b: u32, c: u32, d: u32) -> bool
-    ensures { λ r. ⌜ r ≡ allZero (a ∷ b ∷ c ∷ d ∷ []) ⌝ }
-{
-    (a == 0) & (b == 0) & (c == 0) & (d == 0)
-}
-
 // 1 and 3: bank, page.
 pub fn page_fits(s: &[u8], x: Call) -> bool
     requires { ⌜ IsBlock (now s) ⌝ }
     ensures { λ r. ⌜ r ≡ (ltb (x .a) 4 && ltb (x .b) (decodeControl (now (s .entry)) .pages) && allZero (x .c ∷ x .d ∷ x .given ∷ [])) ⌝ }
 {
     let pages = block::fields::pages(s);
-    (x.a < 4) & (x.b < (pages as u32)) & three_zero(x.c, x.d, x.given)
+    (x.a < 4) & (x.b < (pages as u32)) & ((x.c == 0) & ((x.d == 0) & (x.given == 0)))
 }
 
 // 2: bank.
 pub fn bank_fits(x: Call) -> bool
     ensures { λ r. ⌜ r ≡ (ltb (x .a) 4 && allZero (x .b ∷ x .c ∷ x .d ∷ x .given ∷ [])) ⌝ }
 {
-    (x.a < 4) & four_zero(x.b, x.c, x.d, x.given)
+    (x.a < 4) & ((x.b == 0) & ((x.c == 0) & ((x.d == 0) & (x.given == 0))))
 }
 
 // 4 to 6: bank, block, slot.
 pub fn block_fits(x: Call) -> bool
     ensures { λ r. ⌜ r ≡ (ltb (x .a) 4 && ltb (x .b) 40 && ltb (x .c) 8 && allZero (x .d ∷ x .given ∷ [])) ⌝ }
 {
-    (x.a < 4) & (x.b < 40) & (x.c < 8) & two_zero(x.d, x.given)
+    (x.a < 4) & (x.b < 40) & (x.c < 8) & ((x.d == 0) & (x.given == 0))
 }
 
 // 7: slot, word.
 pub fn word_fits(x: Call) -> bool
     ensures { λ r. ⌜ r ≡ (ltb (x .a) 8 && ltb (x .b) 8 && allZero (x .c ∷ x .d ∷ x .given ∷ [])) ⌝ }
 {
-    (x.a < 8) & (x.b < 8) & three_zero(x.c, x.d, x.given)
+    (x.a < 8) & (x.b < 8) & ((x.c == 0) & ((x.d == 0) & (x.given == 0)))
 }
 
 // 8 to 11: slot, word, byte enables, pass-in, data.
@@ -66,19 +48,19 @@ pub fn write_fits(x: Call) -> bool
 pub fn slot_fits(x: Call) -> bool
     ensures { λ r. ⌜ r ≡ (ltb (x .a) 8 && allZero (x .b ∷ x .c ∷ x .d ∷ [])) ⌝ }
 {
-    (x.a < 8) & three_zero(x.b, x.c, x.d)
+    (x.a < 8) & ((x.b == 0) & ((x.c == 0) & (x.d == 0)))
 }
 
 // 14: register number, data.
 pub fn register_fits(x: Call) -> bool
     ensures { λ r. ⌜ r ≡ (leb 1 (x .a) && leb (x .a) 7 && allZero (x .b ∷ x .c ∷ x .d ∷ [])) ⌝ }
 {
-    (1 <= x.a) & (x.a <= 7) & three_zero(x.b, x.c, x.d)
+    (1 <= x.a) & (x.a <= 7) & ((x.b == 0) & ((x.c == 0) & (x.d == 0)))
 }
 
 // 15: register number.
 pub fn number_fits(x: Call) -> bool
     ensures { λ r. ⌜ r ≡ (leb 1 (x .a) && leb (x .a) 7 && allZero (x .b ∷ x .c ∷ x .d ∷ x .given ∷ [])) ⌝ }
 {
-    (1 <= x.a) & (x.a <= 7) & four_zero(x.b, x.c, x.d, x.given)
+    (1 <= x.a) & (x.a <= 7) & ((x.b == 0) & ((x.c == 0) & ((x.d == 0) & (x.given == 0))))
 }

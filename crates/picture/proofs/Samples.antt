@@ -15,7 +15,7 @@ use Rattle.pixel.specs.Registers.{register, freshRegisters}
 use Rattle.pixel.specs.Writes.{used, intoSlot, intoWord, passesMatch, passesMagnitude, enabled, taken}
 use Rattle.chip.specs.declared.Call.{Call}
 use Rattle.chip.specs.State.{slots, closed, openPage, isClosed, writable, freshControl, freshWith}
-use Rattle.chip.specs.Operations.{isOperation, row, operation, allZero, inRange}
+use Rattle.chip.specs.Operations.{isOperation, callTable, row, operation, inRange}
 use Rattle.chip.specs.Painting.{marked, tagWith}
 use Rattle.chip.specs.Changes.{switched, withRegister, ticked}
 use Rattle.chip.specs.Effects.{effect}
@@ -42,7 +42,7 @@ pages-fit P low high = rw (le-leb 1 P low, le-leb P 257 high)
 -- ---- document 01's listing
 
 listing-from-fresh : (P : ℕ) → ltb 0 P ≡ true → SettlesFrom slots (freshControl slots P) (blank slots) listing
-unfolding listing slots formedNumber first callTests operandsFit isOperation row operation allZero inRange asks isClosed openPage closed freshControl freshRegisters effect ticked note blank kept standing offPage offBlock idle each used intoSlot intoWord register bit word passesMatch passesMagnitude matchPasses magnitudePasses matchTest magnitudeTest enabledBy enabled taken marked tagWith
+unfolding listing slots formedNumber first callTests operandsFit isOperation row callTable operation inRange asks isClosed openPage closed freshControl freshRegisters effect ticked note blank kept standing offPage offBlock idle each used intoSlot intoWord register bit word passesMatch passesMagnitude matchPasses magnitudePasses matchTest magnitudeTest enabledBy enabled taken marked tagWith
 listing-from-fresh P page =
     -- access
     done (rw page) refl (λ r.
@@ -67,7 +67,7 @@ listing-settles P low high = settles-over P listing (pages-fit P low high) (list
 -- ---- the longer list
 
 panes-from-fresh : (P : ℕ) → ltb 0 P ≡ true → ltb 1 P ≡ true → SettlesFrom slots (freshControl slots P) (blank slots) panes
-unfolding panes slots formedNumber first callTests operandsFit isOperation row operation allZero inRange asks within writable withRegister switched isClosed openPage closed freshControl freshRegisters effect ticked note blank kept standing offPage offBlock idle each used intoSlot intoWord register bit word passesMatch passesMagnitude matchPasses magnitudePasses matchTest magnitudeTest enabledBy enabled taken marked tagWith
+unfolding panes slots formedNumber first callTests operandsFit isOperation row callTable operation inRange asks within writable withRegister switched isClosed openPage closed freshControl freshRegisters effect ticked note blank kept standing offPage offBlock idle each used intoSlot intoWord register bit word passesMatch passesMagnitude matchPasses magnitudePasses matchTest magnitudeTest enabledBy enabled taken marked tagWith
 panes-from-fresh P page0 page1 =
     -- two pages opened, two slots loaded
     done (rw page0) refl (λ r.

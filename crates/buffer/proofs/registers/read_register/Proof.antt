@@ -12,9 +12,8 @@ use Rattle.chip.specs.Refusals.{asks}
 use Rattle.block.specs.Block.{decodeControl}
 use Rattle.block.proofs.Puts.{stores-of}
 use Rattle.own.proofs.OwnLines.{row-read-register}
-use Rattle.own.proofs.Owns.{by-asks}
+use Rattle.own.proofs.Owns.{by-asks, operands-refused, put-done}
 use Rattle.buffer.proofs.Settings.{register-range}
-use Rattle.buffer.proofs.InPlace.{operands-refused, put-done}
 use Rattle.buffer.proofs.registers.read_register.Statement.{statement}
 use Rattle.buffer.proofs.registers.read_register.Tie as tie
 
@@ -31,7 +30,7 @@ unfolding inRange
 returns c =
     let start = c .before .before .before in
     let x = start .args .x in
-    operands-refused (now (start .args .s)) x (readRegister (x .a)) _ (row-read-register x (start .pre .2)) (c .before .number-fits .ensures) (c .if1 .taken)
+    operands-refused (now (start .args .s)) x (row-read-register x (start .pre .2)) (c .before .number-fits .ensures) (c .if1 .taken)
 
 register-requires : tie.Need-register-requires
 register-requires c κs = (entry (c .before) .pre .0, range (c .before) .0, range (c .before) .1)

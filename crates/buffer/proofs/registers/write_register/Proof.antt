@@ -22,10 +22,9 @@ use Rattle.chip.specs.Answers.{refusalOf}
 use Rattle.block.specs.Block.{decodeControl, tickedIn, pixelsIn}
 use Rattle.block.proofs.Puts.{Stores, stores-of, stores-register, stores-flags}
 use Rattle.own.specs.Own.{ownAnswer, ownBlock}
-use Rattle.own.proofs.Owns.{by-asks, refused}
+use Rattle.own.proofs.Owns.{by-asks, refused, operands-refused, put-done}
 use Rattle.own.proofs.OwnLines.{row-write-register}
 use Rattle.buffer.proofs.Settings.{register-range, plain-register, compare-register}
-use Rattle.buffer.proofs.InPlace.{operands-refused, put-done}
 use Rattle.buffer.proofs.registers.write_register.Statement.{statement}
 use Rattle.buffer.proofs.registers.write_register.Tie as tie
 
@@ -55,7 +54,7 @@ returns : tie.Need-returns
 unfolding inRange
 returns c =
     let start = c .before .before .before in
-    operands-refused (now (start .args .s)) (start .args .x) (asked start) _ (row-write-register (start .args .x) (start .pre .2)) (c .before .register-fits .ensures) (c .if1 .taken)
+    operands-refused (now (start .args .s)) (start .args .x) (row-write-register (start .args .x) (start .pre .2)) (c .before .register-fits .ensures) (c .if1 .taken)
 
 writable-bits-requires : tie.Need-writable-bits-requires
 writable-bits-requires c κs = range c

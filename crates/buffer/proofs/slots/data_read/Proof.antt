@@ -1,5 +1,5 @@
 -- `buffer::slots::data_read` meets its contract: it puts nothing, and its value is the word read. Assumes nothing.
-use mathlib.Core.Path.{refl, ap, _∙_}
+use mathlib.Core.Path.{refl, ap}
 use Prim.Native.Nat.{_<_}
 use native.Mathlib.Omega.{arith}
 use denote.Ref.{now}
@@ -14,8 +14,7 @@ use Rattle.chip.proofs.Accepted.{word-range}
 use Rattle.block.specs.Block.{decodeControl}
 use Rattle.block.proofs.Puts.{stores-of}
 use Rattle.own.proofs.OwnLines.{row-data-read}
-use Rattle.own.proofs.Owns.{by-asks}
-use Rattle.buffer.proofs.InPlace.{operands-refused, put-done}
+use Rattle.own.proofs.Owns.{by-asks, operands-refused, put-done}
 use Rattle.buffer.proofs.slots.data_read.Statement.{statement}
 use Rattle.buffer.proofs.slots.data_read.Tie as tie
 
@@ -32,7 +31,7 @@ unfolding inRange slots
 returns c =
     let start = c .before .before .before in
     let x = start .args .x in
-    operands-refused (now (start .args .s)) x (dataRead (x .a) (x .b)) _ (row-data-read x (start .pre .2)) (c .before .word-fits .ensures) (c .if1 .taken)
+    operands-refused (now (start .args .s)) x (row-data-read x (start .pre .2)) (c .before .word-fits .ensures) (c .if1 .taken)
 
 slot-word-requires : tie.Need-slot-word-requires
 slot-word-requires c κs = (entry (c .before) .pre .0, range (c .before) .0, range (c .before) .1)

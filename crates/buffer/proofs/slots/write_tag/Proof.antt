@@ -10,7 +10,6 @@ use borrow.Author.Tests.{ltb-true}
 use borrow.Author.Needs.{needs}
 use Rattle.numbers.proofs.Tests.{and-left, test-holds}
 use Rattle.numbers.specs.Numbers.{first}
-use Rattle.chip.specs.declared.Control.{Control}
 use Rattle.chip.specs.State.{slots}
 use Rattle.chip.specs.Operations.{Operation, writeTag, inRange}
 use Rattle.chip.specs.Changes.{withTag, tagOf}
@@ -19,8 +18,7 @@ use Rattle.chip.specs.Refusals.{asks}
 use Rattle.block.specs.Block.{decodeControl, tickedIn}
 use Rattle.block.proofs.Puts.{stores-of, stores-tag}
 use Rattle.own.proofs.OwnLines.{row-write-tag}
-use Rattle.own.proofs.Owns.{by-asks}
-use Rattle.buffer.proofs.InPlace.{operands-refused, put-done}
+use Rattle.own.proofs.Owns.{by-asks, operands-refused, put-done}
 use Rattle.buffer.proofs.slots.write_tag.Statement.{statement}
 use Rattle.buffer.proofs.slots.write_tag.Tie as tie
 
@@ -52,7 +50,7 @@ returns : tie.Need-returns
 unfolding inRange slots
 returns c =
     let start = c .before .before .before in
-    operands-refused (now (start .args .s)) (start .args .x) (asked start) _ (row-write-tag (start .args .x) (start .pre .2) (start .pre .3)) (c .before .slot-fits .ensures) (c .if1 .taken)
+    operands-refused (now (start .args .s)) (start .args .x) (row-write-tag (start .args .x) (start .pre .2) (start .pre .3)) (c .before .slot-fits .ensures) (c .if1 .taken)
 
 tag-requires : tie.Need-tag-requires
 tag-requires c κs = (entry (c .before .before) .pre .0, slot-there (c .before .before))

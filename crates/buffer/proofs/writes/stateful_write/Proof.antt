@@ -8,10 +8,10 @@ use denote.Ref.{now}
 use borrow.Author.Needs.{needs}
 use Rattle.pixel.specs.declared.Write.{Write}
 use Rattle.pixel.proofs.Outcomes.{into-slot-lt, into-word-lt}
-use Rattle.chip.specs.Operations.{dataWrite, inRange}
+use Rattle.chip.specs.Operations.{inRange}
 use Rattle.chip.specs.State.{slots}
 use Rattle.own.proofs.OwnLines.{asked, row-stateful}
-use Rattle.buffer.proofs.InPlace.{operands-refused}
+use Rattle.own.proofs.Owns.{operands-refused}
 use Rattle.buffer.proofs.Draws.{write-in-range, write-done}
 use Rattle.buffer.proofs.writes.stateful_write.Statement.{statement}
 use Rattle.buffer.proofs.writes.stateful_write.Tie as tie
@@ -41,7 +41,7 @@ returns : tie.Need-returns
 unfolding inRange slots
 returns c =
     let start = c .before .before .before in
-    operands-refused (now (start .args .s)) (start .args .x) (dataWrite (write start)) _ (row-stateful (start .args .x) (start .pre .2) (start .pre .3)) (c .before .write-fits .ensures) (c .if1 .taken)
+    operands-refused (now (start .args .s)) (start .args .x) (row-stateful (start .args .x) (start .pre .2) (start .pre .3)) (c .before .write-fits .ensures) (c .if1 .taken)
 
 drawn-requires : tie.Need-drawn-requires
 drawn-requires c κs =

@@ -10,11 +10,11 @@ use Rattle.bits.specs.Bits.{wordIn}
 use Rattle.pixel.specs.declared.Write.{Write}
 use Rattle.pixel.specs.Writes.{outcomeOf}
 use Rattle.chip.specs.Effects.{slotByte}
-use Rattle.chip.specs.Operations.{dataWrite, inRange}
+use Rattle.chip.specs.Operations.{inRange}
 use Rattle.chip.specs.State.{slots}
 use Rattle.block.specs.Block.{decodeControl, pixelsIn}
 use Rattle.own.proofs.OwnLines.{asked, row-stateless}
-use Rattle.buffer.proofs.InPlace.{operands-refused}
+use Rattle.own.proofs.Owns.{operands-refused}
 use Rattle.buffer.proofs.Draws.{stateless-slot, stateless-word, write-in-range, write-done}
 use Rattle.buffer.proofs.writes.stateless_write.Statement.{statement}
 use Rattle.buffer.proofs.writes.stateless_write.Tie as tie
@@ -36,7 +36,7 @@ returns : tie.Need-returns
 unfolding inRange slots
 returns c =
     let start = c .before .before .before in
-    operands-refused (now (start .args .s)) (start .args .x) (dataWrite (write start)) _ (row-stateless (start .args .x) (start .pre .2) (start .pre .3)) (c .before .write-fits .ensures) (c .if1 .taken)
+    operands-refused (now (start .args .s)) (start .args .x) (row-stateless (start .args .x) (start .pre .2) (start .pre .3)) (c .before .write-fits .ensures) (c .if1 .taken)
 
 slot-word-requires : tie.Need-slot-word-requires
 slot-word-requires c κs = let past = c .before .before in (entry past .pre .0, range past .0, range past .1)

@@ -1,5 +1,4 @@
--- `calls::acts::other`: each arm is its operation, by its number's line; an arm that leaves memory alone is `at-number`; and a number in no arm is no
--- operation. Assumes nothing.
+-- `calls::acts::other`: each arm is its operation, by its number's line, and a number in no arm is no operation. Assumes nothing.
 use mathlib.Core.Path.{_≡_, refl}
 use mathlib.Core.Bool.{false}
 use Prim.Native.Nat.{_<_, _≤_}
@@ -55,8 +54,7 @@ returns-3 : tie.Need-returns-3
 returns-3 c =
     let called : tie.After-duplicate = c .before .before .before .before in
     let arm : tie.At-match-keys3 = called .before .before .before in
-    let own = called .duplicate .ensures in
-    by-its-line (ready (arm .before)) (asked (arm .before)) (omega (arith, arm .match .keys3)) (omega (arith, arm .match .keys3)) (own .0) (own .1) (own .2)
+    by-its-line (ready (arm .before)) (asked (arm .before)) (omega (arith, arm .match .keys3)) (omega (arith, arm .match .keys3)) (called .duplicate .ensures .0) (called .duplicate .ensures .1) (called .duplicate .ensures .2)
 
 returns-4 : tie.Need-returns-4
 unfolding effect memoryAfter isOperation
@@ -90,29 +88,26 @@ returns-8 : tie.Need-returns-8
 returns-8 c =
     let called : tie.After-write-block = c .before .before .before .before in
     let arm : tie.Then2 = called .before .before .before in
-    let own = called .write-block .ensures in
     let p = arm .before .before .before in
-    by-its-line (ready p) (asked p) (omega (arith, arm .before .if1 .left)) (omega (arith, arm .if2 .taken)) (own .0) (own .1) (own .2)
+    by-its-line (ready p) (asked p) (omega (arith, arm .before .if1 .left)) (omega (arith, arm .if2 .taken)) (called .write-block .ensures .0) (called .write-block .ensures .1) (called .write-block .ensures .2)
 
 returns-9 : tie.Need-returns-9
 unfolding effect memoryAfter
 returns-9 c =
     let arm : tie.Then3 = c .before .before .before .before in
     let rest : tie.At-match-rest = arm .before .before .before in
-    let own = c .before .before .stateless-write .ensures in
     let low : 8 ≤ asked (rest .before) .op = omega (arith, arm .before .if2 .left, rest .match .rest .0 .0 .1) in
     let high : asked (rest .before) .op ≤ 9 = omega (arith, arm .if3 .taken) in
-    beside-memory (ready (rest .before)) (asked (rest .before)) (row-stateless _ low high) refl (omega (arith, low)) (omega (arith, high)) (own .0) (own .1 _)
+    beside-memory (ready (rest .before)) (asked (rest .before)) (row-stateless _ low high) refl (omega (arith, low)) (omega (arith, high)) (c .before .before .stateless-write .ensures .0) (c .before .before .stateless-write .ensures .1 _)
 
 returns-10 : tie.Need-returns-10
 unfolding effect memoryAfter
 returns-10 c =
     let arm : tie.Then5 = c .before .before .before .before in
     let rest : tie.At-match-rest = arm .before .before .before .before .before in
-    let own = c .before .before .write-tag .ensures in
     let low : 12 ≤ asked (rest .before) .op = omega (arith, arm .before .if4 .left) in
     let high : asked (rest .before) .op ≤ 13 = omega (arith, arm .if5 .taken) in
-    beside-memory (ready (rest .before)) (asked (rest .before)) (row-write-tag _ low high) refl (omega (arith, low)) (omega (arith, high)) (own .0) (own .1 _)
+    beside-memory (ready (rest .before)) (asked (rest .before)) (row-write-tag _ low high) refl (omega (arith, low)) (omega (arith, high)) (c .before .before .write-tag .ensures .0) (c .before .before .write-tag .ensures .1 _)
 
 returns-11 : tie.Need-returns-11
 unfolding isOperation

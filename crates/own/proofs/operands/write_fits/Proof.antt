@@ -1,12 +1,10 @@
 -- `own::operands::write_fits` meets its contract: all operands are listed. Assumes nothing.
 use mathlib.Core.Bool.{and-true}
 use mathlib.Core.Path.{sym}
-use Rattle.chip.specs.Operations.{allZero}
 use Rattle.own.proofs.operands.write_fits.Statement.{statement}
 use Rattle.own.proofs.operands.write_fits.Tie as tie
 
 returns : tie.Need-returns
-unfolding allZero
 returns c = sym (and-true _)
 
 pub write-fits-spec : {M : Type 1} → statement M

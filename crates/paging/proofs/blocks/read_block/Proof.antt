@@ -1,5 +1,4 @@
--- `paging::blocks::read_block`: refused as its operands' test and its bank's test say; past both the slot holds the block, its tag is 0, and the
--- counter goes on. Assumes nothing.
+-- `paging::blocks::read_block`: refused by its two tests; past both the slot holds the block, its tag is 0, and the counter goes on. Assumes nothing.
 use mathlib.Core.Path.{refl}
 use Prim.Native.Nat.{_<_}
 use native.Mathlib.Omega.{arith}
@@ -16,7 +15,7 @@ use Rattle.chip.specs.Refusals.{asks}
 use Rattle.block.specs.Block.{decodeControl}
 use Rattle.bank.proofs.Slots.{slot-inside}
 use Rattle.block.proofs.Puts.{stores-tag, stores-pixels, stores-of}
-use Rattle.own.proofs.Tested.{operand-outside, closed-refused, open-passes, open-there, block-bounds, as-stored, ends-answer, ends-block}
+use Rattle.own.proofs.Owns.{operand-outside, closed-refused, open-passes, open-there, block-bounds, as-stored, ends-answer, ends-block}
 use Rattle.own.proofs.OwnLines.{row-read-block}
 use Rattle.paging.proofs.blocks.read_block.Statement.{statement}
 use Rattle.paging.proofs.blocks.read_block.Tie as tie

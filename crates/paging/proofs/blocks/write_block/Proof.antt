@@ -1,5 +1,4 @@
--- `paging::blocks::write_block`: refused as its operands' test and its bank's test say; past both memory has the slot's tagged bytes, and the answer
--- says how many they are. Assumes nothing.
+-- `paging::blocks::write_block`: refused by its two tests; past both memory has the slot's tagged bytes, and the value counts them. Assumes nothing.
 use mathlib.Core.Bool.{false}
 use mathlib.Core.Path.{refl, ap, _∙_}
 use Prim.Native.Nat.{_<_, ℕ}
@@ -13,7 +12,7 @@ use Rattle.chip.specs.Operations.{inRange}
 use Rattle.chip.specs.State.{slots}
 use Rattle.chip.specs.Refusals.{asks}
 use Rattle.block.proofs.Puts.{stores-of}
-use Rattle.own.proofs.Tested.{operand-outside, closed-refused, open-passes, open-there, block-bounds, ends-answer, ends-block, ends-memory}
+use Rattle.own.proofs.Owns.{operand-outside, closed-refused, open-passes, open-there, block-bounds, ends-answer, ends-block, ends-memory}
 use Rattle.own.proofs.OwnLines.{row-write-block}
 use Rattle.paging.proofs.blocks.write_block.Statement.{statement}
 use Rattle.paging.proofs.blocks.write_block.Tie as tie

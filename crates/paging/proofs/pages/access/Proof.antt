@@ -1,5 +1,4 @@
--- `paging::pages::access`: refused as its operands' test and its bank's test say; past both the bank's page is the named one, and the counter goes
--- on. Assumes nothing.
+-- `paging::pages::access`: refused by its two tests; past both the named page is open, and the counter goes on. Assumes nothing.
 use mathlib.Core.Path.{refl}
 use Prim.Native.Nat.{_<_, _^_}
 use native.Mathlib.Omega.{arith}
@@ -11,7 +10,7 @@ use Rattle.chip.specs.Operations.{inRange}
 use Rattle.block.specs.Block.{decodeControl}
 use Rattle.block.proofs.Puts.{stores-of, stores-page}
 use Rattle.own.proofs.WellFormed.{pages-in}
-use Rattle.own.proofs.Tested.{operand-outside, open-refused, closed-passes, page-bounds, as-stored, ends-answer, ends-block}
+use Rattle.own.proofs.Owns.{operand-outside, open-refused, closed-passes, page-bounds, as-stored, ends-answer, ends-block}
 use Rattle.own.proofs.OwnLines.{row-access}
 use Rattle.paging.proofs.pages.access.Statement.{statement}
 use Rattle.paging.proofs.pages.access.Tie as tie

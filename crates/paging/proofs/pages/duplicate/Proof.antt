@@ -1,5 +1,4 @@
--- `paging::pages::duplicate`: refused as its operands' test and its bank's test say; past both memory has the open page on the named one, which the
--- bank then has open. Assumes nothing.
+-- `paging::pages::duplicate`: refused by its two tests; past both the open page is copied over the named one, which is then open. Assumes nothing.
 use mathlib.Core.Path.{refl}
 use Prim.Native.Nat.{_<_, _^_}
 use native.Mathlib.Omega.{arith}
@@ -11,7 +10,7 @@ use Rattle.chip.specs.Operations.{inRange}
 use Rattle.block.specs.Block.{decodeControl}
 use Rattle.block.proofs.Puts.{stores-of, stores-page}
 use Rattle.own.proofs.WellFormed.{pages-in}
-use Rattle.own.proofs.Tested.{operand-outside, closed-refused, open-passes, open-there, page-bounds, as-stored, ends-answer, ends-block, ends-memory}
+use Rattle.own.proofs.Owns.{operand-outside, closed-refused, open-passes, open-there, page-bounds, as-stored, ends-answer, ends-block, ends-memory}
 use Rattle.own.proofs.OwnLines.{row-duplicate}
 use Rattle.paging.proofs.pages.duplicate.Statement.{statement}
 use Rattle.paging.proofs.pages.duplicate.Tie as tie

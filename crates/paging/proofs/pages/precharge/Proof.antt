@@ -14,8 +14,7 @@ use Rattle.chip.specs.Operations.{precharge, inRange}
 use Rattle.chip.specs.State.{closed}
 use Rattle.block.specs.Block.{decodeControl}
 use Rattle.block.proofs.Puts.{stores-of, stores-page}
-use Rattle.own.proofs.Owns.{by-asks}
-use Rattle.own.proofs.Tested.{operand-outside, as-stored, ends-answer, ends-block}
+use Rattle.own.proofs.Owns.{by-asks, operand-outside, as-stored, ends-answer, ends-block}
 use Rattle.own.proofs.OwnLines.{row-precharge}
 use Rattle.paging.proofs.pages.precharge.Statement.{statement}
 use Rattle.paging.proofs.pages.precharge.Tie as tie
