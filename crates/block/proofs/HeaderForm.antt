@@ -9,7 +9,7 @@ use lib.Dec.{eqb}
 use lib.ListN.{getD}
 use borrow.Author.Tests.{eq-eqb, ne-eqb}
 use Rattle.bits.specs.Bits.{joined}
-use Rattle.lists.specs.Words.{halfAt, wordAt, rowAt, halvesAt}
+use Rattle.lists.specs.Words.{halfAt, wordAt, numbersAt, halvesAt}
 use Rattle.lists.proofs.Words.{half-at-lt}
 use Rattle.block.specs.Block.{banksAt, registersAt, flagsAt, tagsAt, pixelsAt, blockBytes, header, same}
 
@@ -55,7 +55,7 @@ regroup true true true true true true false = refl
 -- the header's test, as code makes it
 pub header-test : (s : List ℕ) → ((a : ℕ) → getD s a 0 < 2 ^ 8) → same (halvesAt 8 s 0) (header (halfAt s 0))
     ≡ (eqb (halfAt s 2) 8 && (eqb (wordAt s 4) (pair banksAt registersAt) && (eqb (wordAt s 8) (pair flagsAt tagsAt) && eqb (wordAt s 12) (pair pixelsAt blockBytes))))
-unfolding same rowAt header
+unfolding same numbersAt header
 header-test s bytes =
     rw (eq-eqb (halfAt s 0) (halfAt s 0) refl)
     (regroup (eqb (halfAt s 2) 8) (eqb (halfAt s 4) banksAt) (eqb (halfAt s 6) registersAt) (eqb (halfAt s 8) flagsAt) (eqb (halfAt s 10) tagsAt) (eqb (halfAt s 12) pixelsAt) (eqb (halfAt s 14) blockBytes)

@@ -12,7 +12,7 @@ use lib.Seq.{length-take-le}
 use borrow.Author.Tests.{eqb-true, eq-eqb}
 use Rattle.bits.specs.Bits.{bit, digit, within}
 use Rattle.numbers.proofs.Tests.{and-left, and-right}
-use Rattle.lists.specs.Words.{halfAt, wordAt, rowAt, halves, words, halvesAt, wordsAt}
+use Rattle.lists.specs.Words.{halfAt, wordAt, numbersAt, halves, words, halvesAt, wordsAt}
 use Rattle.lists.proofs.Seams.{startOf, part-in, cut, total, cut-whole}
 use Rattle.lists.proofs.Words.{half-at-lt, word-at-lt}
 use Rattle.lists.proofs.Rows.{length-row-at, halves-in, words-in, halves-back, words-back, halves-lt, words-lt}
@@ -109,15 +109,15 @@ module _ (chip : Chip) (z : Sized chip) where
 
   -- the first number of a row
   pages-half : halfAt (encode chip) 0 ≡ c .pages
-  unfolding rowAt header
+  unfolding numbersAt header
   pages-half = ap (λ (l : List ℕ). getD l 0 0) header-back
 
   flags-word : wordAt (encode chip) flagsAt ≡ flags c
-  unfolding rowAt
+  unfolding numbersAt
   flags-word = ap (λ (l : List ℕ). getD l 0 0) flags-back
 
   counter-word : wordAt (encode chip) counterAt ≡ c .counter
-  unfolding rowAt
+  unfolding numbersAt
   counter-word = ap (λ (l : List ℕ). getD l 1 0) flags-back
 
   pub control-read : decodeControl (encode chip) ≡ c
@@ -204,7 +204,7 @@ module _ (s : List ℕ) (bytes : (a : ℕ) → getD s a 0 < 2 ^ 8) where
         let h = ap halves (sym (well-parts s well .1)) ∙ halves-back s bytes 8 0 (omega (arith, long)) in
         let b = halves-back s bytes 4 banksAt (omega (arith, long)) in
         let r = words-back s bytes 7 registersAt (omega (arith, long)) in
-        let two : words (wordAt s flagsAt ∷ wordAt s counterAt ∷ []) ≡ take 8 (drop flagsAt s) = unfold rowAt in words-back s bytes 2 flagsAt (omega (arith, long)) in
+        let two : words (wordAt s flagsAt ∷ wordAt s counterAt ∷ []) ≡ take 8 (drop flagsAt s) = unfold numbersAt in words-back s bytes 2 flagsAt (omega (arith, long)) in
         let f = ap (λ (x : ℕ). words (x ∷ wordAt s counterAt ∷ [])) (flags-two (wordAt s flagsAt) (well-parts s well .2)) ∙ two in
         let t = words-back s bytes 8 tagsAt (omega (arith, long)) in
         λ i. h i ∷ b i ∷ r i ∷ f i ∷ t i ∷ take 256 (drop 92 s) ∷ []

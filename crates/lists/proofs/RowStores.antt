@@ -8,7 +8,7 @@ use native.Mathlib.Omega.{arith}
 use lib.ListN.{length, getD, set, take}
 use lib.Seq.{sets, sets-eq, take-suc, length-take-le, drop-length}
 use Rattle.lists.specs.Update.{update}
-use Rattle.lists.specs.Words.{putHalf, putWord, bytesFrom, row, halves, words}
+use Rattle.lists.specs.Words.{putHalf, putWord, bytesFrom, asBytes, halves, words}
 use Rattle.lists.proofs.Rows.{length-row, row-append}
 
 -- n bytes stored from p on, and then more behind them
@@ -24,11 +24,11 @@ sets-whole bytes s e = sets-eq bytes s 0 (omega arith) ∙ rw (zero-add, e, drop
 -- ---- one number of a run
 
 half-stored : (p x : ℕ) (s : List ℕ) → putHalf p x s ≡ sets s p (halves (x ∷ []))
-unfolding putHalf update row bytesFrom
+unfolding putHalf update asBytes bytesFrom
 half-stored p x s = rw (add-zero p, add-one p)
 
 word-stored : (p x : ℕ) (s : List ℕ) → putWord p x s ≡ sets s p (words (x ∷ []))
-unfolding putWord update row bytesFrom
+unfolding putWord update asBytes bytesFrom
 word-stored p x s =
     let two : p + 2 ≡ suc (suc p) = omega arith in
     let three : p + 3 ≡ suc (suc (suc p)) = omega arith in
@@ -36,13 +36,13 @@ word-stored p x s =
 
 -- ---- a row of numbers, stored from its first on: number i behind those before it
 
-turn : (w : ℕ) (xs s s₀ : List ℕ) (p i : ℕ) → i < length xs → s ≡ sets s₀ p (row w (take i xs))
-    → sets s (p + w * i) (row w (getD xs i 0 ∷ [])) ≡ sets s₀ p (row w (take (i + 1) xs))
+turn : (w : ℕ) (xs s s₀ : List ℕ) (p i : ℕ) → i < length xs → s ≡ sets s₀ p (asBytes w (take i xs))
+    → sets s (p + w * i) (asBytes w (getD xs i 0 ∷ [])) ≡ sets s₀ p (asBytes w (take (i + 1) xs))
 turn w xs s s₀ p i h e =
-    ap (λ (l : List ℕ). sets l (p + w * i) (row w (getD xs i 0 ∷ []))) e
-    ∙ sets-more (row w (take i xs)) (row w (getD xs i 0 ∷ [])) s₀ p (w * i)
+    ap (λ (l : List ℕ). sets l (p + w * i) (asBytes w (getD xs i 0 ∷ []))) e
+    ∙ sets-more (asBytes w (take i xs)) (asBytes w (getD xs i 0 ∷ [])) s₀ p (w * i)
     (length-row w (take i xs) ∙ ap (λ (n : ℕ). w * n) (length-take-le i xs (omega arith)))
-    ∙ ap (sets s₀ p) (sym (row-append w (take i xs) (getD xs i 0 ∷ [])) ∙ ap (row w) (rw add-one (sym (take-suc xs i 0 h))))
+    ∙ ap (sets s₀ p) (sym (row-append w (take i xs) (getD xs i 0 ∷ [])) ∙ ap (asBytes w) (rw add-one (sym (take-suc xs i 0 h))))
 
 pub half-turn : (xs s s₀ : List ℕ) (p i : ℕ) → i < length xs → s ≡ sets s₀ p (halves (take i xs))
     → putHalf (p + 2 * i) (getD xs i 0) s ≡ sets s₀ p (halves (take (i + 1) xs))

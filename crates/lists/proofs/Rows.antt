@@ -11,7 +11,7 @@ use lib.Seq.{getD-append-seam, getD-append-add, take-add, drop-drop, drop-cons, 
 use Rattle.bits.specs.Bits.{byte}
 use Rattle.bits.proofs.Bytes.{join-bytes, byte-joined-0, byte-joined-1, byte-joined-2, byte-joined-3}
 use Rattle.lists.specs.Update.{update}
-use Rattle.lists.specs.Words.{halfAt, putHalf, wordAt, putWord, bytesFrom, row, rowAt, halves, words, halvesAt, wordsAt}
+use Rattle.lists.specs.Words.{halfAt, putHalf, wordAt, putWord, bytesFrom, asBytes, numbersAt, halves, words, halvesAt, wordsAt}
 use Rattle.lists.proofs.Updates.{length-update, update-same, update-at}
 use Rattle.lists.proofs.Seams.{update-front, update-behind, startOf, put-in, split-at, start-long}
 use Rattle.lists.proofs.Words.{half-at-lt, word-at-lt}
@@ -40,74 +40,74 @@ over w x y =
 
 -- ---- a row
 
-pub length-row : (w : ℕ) (xs : List ℕ) → length (row w xs) ≡ w * length xs
-unfolding row
+pub length-row : (w : ℕ) (xs : List ℕ) → length (asBytes w xs) ≡ w * length xs
+unfolding asBytes
 length-row w [] = omega arith
 length-row w (x ∷ xs) =
     let more : w + w * length xs ≡ w * suc (length xs) = rw (mul-suc w (length xs)) (omega arith) in
-    length-append (bytesFrom w 0 x) (row w xs) ∙ ap₂ _+_ (length-bytes w 0 x) (length-row w xs) ∙ more
+    length-append (bytesFrom w 0 x) (asBytes w xs) ∙ ap₂ _+_ (length-bytes w 0 x) (length-row w xs) ∙ more
 
-pub length-row-at : (w : ℕ) (reads : List ℕ → ℕ → ℕ) (n : ℕ) (s : List ℕ) (p : ℕ) → length (rowAt w reads n s p) ≡ n
-unfolding rowAt
+pub length-row-at : (w : ℕ) (reads : List ℕ → ℕ → ℕ) (n : ℕ) (s : List ℕ) (p : ℕ) → length (numbersAt w reads n s p) ≡ n
+unfolding numbersAt
 length-row-at w reads zero s p = refl
 length-row-at w reads (suc n) s p = ap suc (length-row-at w reads n s (p + w))
 
-pub row-append : (w : ℕ) (a b : List ℕ) → row w (a ++ b) ≡ row w a ++ row w b
-unfolding row
+pub row-append : (w : ℕ) (a b : List ℕ) → asBytes w (a ++ b) ≡ asBytes w a ++ asBytes w b
+unfolding asBytes
 row-append w [] b = refl
-row-append w (x ∷ a) b = rw (row-append w a b) (sym (append-assoc (bytesFrom w 0 x) (row w a) (row w b)))
+row-append w (x ∷ a) b = rw (row-append w a b) (sym (append-assoc (bytesFrom w 0 x) (asBytes w a) (asBytes w b)))
 
 next : (w p i : ℕ) → p + w + w * i ≡ p + w * suc i
 next w p i = rw (mul-suc w i) (omega arith)
 
 -- number i, read
-pub row-at : (w : ℕ) (reads : List ℕ → ℕ → ℕ) (n p i : ℕ) (s : List ℕ) → i < n → getD (rowAt w reads n s p) i 0 ≡ reads s (p + w * i)
-unfolding rowAt
+pub row-at : (w : ℕ) (reads : List ℕ → ℕ → ℕ) (n p i : ℕ) (s : List ℕ) → i < n → getD (numbersAt w reads n s p) i 0 ≡ reads s (p + w * i)
+unfolding numbersAt
 row-at w reads zero p i s h = absurd (omega arith)
 row-at w reads (suc n) p zero s h = ap (reads s) (omega arith)
 row-at w reads (suc n) p (suc i) s h = row-at w reads n (p + w) i s (omega arith) ∙ ap (reads s) (next w p i)
 
 -- number i, put
-pub row-put : (w i x : ℕ) (xs : List ℕ) → i < length xs → update w (λ n. w * i + n) (λ n was. byte x n) (row w xs) ≡ row w (set xs i x)
-unfolding row
+pub row-put : (w i x : ℕ) (xs : List ℕ) → i < length xs → update w (λ n. w * i + n) (λ n was. byte x n) (asBytes w xs) ≡ asBytes w (set xs i x)
+unfolding asBytes
 row-put w i x [] h = absurd (omega arith)
 row-put w zero x (y ∷ xs) h =
-    update-at w (λ n. w * 0 + n) (λ n. n) (λ n was. byte x n) (bytesFrom w 0 y ++ row w xs) (λ n hn. omega arith)
-    ∙ update-front w (λ n. n) (λ n was. byte x n) (bytesFrom w 0 y) (row w xs) (λ n hn. omega (arith, length-bytes w 0 y))
-    ∙ ap (λ (l : List ℕ). l ++ row w xs) (over w x y)
+    update-at w (λ n. w * 0 + n) (λ n. n) (λ n was. byte x n) (bytesFrom w 0 y ++ asBytes w xs) (λ n hn. omega arith)
+    ∙ update-front w (λ n. n) (λ n was. byte x n) (bytesFrom w 0 y) (asBytes w xs) (λ n hn. omega (arith, length-bytes w 0 y))
+    ∙ ap (λ (l : List ℕ). l ++ asBytes w xs) (over w x y)
 row-put w (suc i) x (y ∷ xs) h =
-    update-at w (λ n. w * suc i + n) (λ n. length (bytesFrom w 0 y) + (w * i + n)) (λ n was. byte x n) (bytesFrom w 0 y ++ row w xs)
+    update-at w (λ n. w * suc i + n) (λ n. length (bytesFrom w 0 y) + (w * i + n)) (λ n was. byte x n) (bytesFrom w 0 y ++ asBytes w xs)
     (λ n hn. rw (length-bytes w 0 y, mul-suc w i) (omega arith))
-    ∙ update-behind w (λ n. w * i + n) (λ n was. byte x n) (bytesFrom w 0 y) (row w xs)
+    ∙ update-behind w (λ n. w * i + n) (λ n was. byte x n) (bytesFrom w 0 y) (asBytes w xs)
     ∙ ap (λ (l : List ℕ). bytesFrom w 0 y ++ l) (row-put w i x xs (omega arith))
 
 -- ---- what was written is read: where one number is, so is a row
 
 module _ (w m : ℕ) (reads : List ℕ → ℕ → ℕ)
     (one : (pre : List ℕ) (x : ℕ) (rest : List ℕ) → x < m → reads (pre ++ (bytesFrom w 0 x ++ rest)) (length pre) ≡ x) where
-  row-read : (xs pre rest : List ℕ) → ((j : ℕ) → getD xs j 0 < m) → rowAt w reads (length xs) (pre ++ (row w xs ++ rest)) (length pre) ≡ xs
-  unfolding rowAt row
+  row-read : (xs pre rest : List ℕ) → ((j : ℕ) → getD xs j 0 < m) → numbersAt w reads (length xs) (pre ++ (asBytes w xs ++ rest)) (length pre) ≡ xs
+  unfolding numbersAt asBytes
   row-read [] pre rest fit = refl
   row-read (x ∷ xs) pre rest fit =
       let B = bytesFrom w 0 x in
       ap₂ (λ (y : ℕ) (ys : List ℕ). y ∷ ys)
-      (ap (λ (l : List ℕ). reads (pre ++ l) (length pre)) (append-assoc B (row w xs) rest) ∙ one pre x (row w xs ++ rest) (fit 0))
-      (ap₂ (rowAt w reads (length xs))
-      (ap (λ (l : List ℕ). pre ++ l) (append-assoc B (row w xs) rest) ∙ sym (append-assoc pre B (row w xs ++ rest)))
+      (ap (λ (l : List ℕ). reads (pre ++ l) (length pre)) (append-assoc B (asBytes w xs) rest) ∙ one pre x (asBytes w xs ++ rest) (fit 0))
+      (ap₂ (numbersAt w reads (length xs))
+      (ap (λ (l : List ℕ). pre ++ l) (append-assoc B (asBytes w xs) rest) ∙ sym (append-assoc pre B (asBytes w xs ++ rest)))
       (ap (λ (n : ℕ). length pre + n) (sym (length-bytes w 0 x)) ∙ sym (length-append pre B))
       ∙ row-read xs (pre ++ B) rest (λ j. fit (suc j)))
 
   -- a part of a list, at its place
-  pub read-row : (s pre xs rest : List ℕ) (p n : ℕ) → s ≡ pre ++ (row w xs ++ rest) → length pre ≡ p → length xs ≡ n
-      → ((j : ℕ) → getD xs j 0 < m) → rowAt w reads n s p ≡ xs
+  pub read-row : (s pre xs rest : List ℕ) (p n : ℕ) → s ≡ pre ++ (asBytes w xs ++ rest) → length pre ≡ p → length xs ≡ n
+      → ((j : ℕ) → getD xs j 0 < m) → numbersAt w reads n s p ≡ xs
   read-row s pre xs rest p n e ep en fit = rw (e, ← ep, ← en) (row-read xs pre rest fit)
 
 -- ---- what was read is written
 
 module _ (w : ℕ) (reads : List ℕ → ℕ → ℕ) (s : List ℕ)
     (one : (p : ℕ) → p + w ≤ length s → bytesFrom w 0 (reads s p) ≡ take w (drop p s)) where
-  pub row-back : (n p : ℕ) → p + w * n ≤ length s → row w (rowAt w reads n s p) ≡ take (w * n) (drop p s)
-  unfolding row rowAt
+  pub row-back : (n p : ℕ) → p + w * n ≤ length s → asBytes w (numbersAt w reads n s p) ≡ take (w * n) (drop p s)
+  unfolding asBytes numbersAt
   row-back zero p h =
       let none : w * 0 ≡ 0 = omega arith in
       rw none
@@ -143,8 +143,8 @@ word-read pre x rest h = rw (getD-append-seam, later 1, later 2, later 3) (join-
     later k = getD-append-add pre (byte x 0 ∷ byte x 1 ∷ byte x 2 ∷ byte x 3 ∷ rest) k 0
 
 -- what holds of each number read holds of the row
-all-lt : (w : ℕ) (reads : List ℕ → ℕ → ℕ) (m : ℕ) (s : List ℕ) → 0 < m → ((p : ℕ) → reads s p < m) → (n p i : ℕ) → getD (rowAt w reads n s p) i 0 < m
-unfolding rowAt
+all-lt : (w : ℕ) (reads : List ℕ → ℕ → ℕ) (m : ℕ) (s : List ℕ) → 0 < m → ((p : ℕ) → reads s p < m) → (n p i : ℕ) → getD (numbersAt w reads n s p) i 0 < m
+unfolding numbersAt
 all-lt w reads m s none lt zero p i = none
 all-lt w reads m s none lt (suc n) p zero = lt p
 all-lt w reads m s none lt (suc n) p (suc i) = all-lt w reads m s none lt n (p + w) i
@@ -196,10 +196,10 @@ module _ (s : List ℕ) (fit : (a : ℕ) → getD s a 0 < 2 ^ 8) where
 -- ---- a row as list k of lists in a row
 
 -- number i of it, put at its place
-put-number : (w k : ℕ) (ls : List (List ℕ)) → k < length ls → (xs : List ℕ) → getD ls k [] ≡ row w xs → (i x p : ℕ) → i < length xs → p ≡ startOf k ls + w * i
-    → update w (λ n. p + n) (λ n was. byte x n) (flatten ls) ≡ flatten (set ls k (row w (set xs i x)))
+put-number : (w k : ℕ) (ls : List (List ℕ)) → k < length ls → (xs : List ℕ) → getD ls k [] ≡ asBytes w xs → (i x p : ℕ) → i < length xs → p ≡ startOf k ls + w * i
+    → update w (λ n. p + n) (λ n was. byte x n) (flatten ls) ≡ flatten (set ls k (asBytes w (set xs i x)))
 put-number w k ls s xs e i x p h q =
-    let below : (n : ℕ) → n < w → w * i + n < length (row w xs) = λ n hn. omega (arith, length-row w xs, mul-suc w i, mul-le-mul-left w h) in
+    let below : (n : ℕ) → n < w → w * i + n < length (asBytes w xs) = λ n hn. omega (arith, length-row w xs, mul-suc w i, mul-le-mul-left w h) in
     rw q (update-at w (λ n. startOf k ls + w * i + n) (λ n. startOf k ls + (w * i + n)) (λ n was. byte x n) (flatten ls) (λ n hn. add-assoc (startOf k ls) (w * i) n)
     ∙ put-in k ls s w (λ n. w * i + n) (λ n was. byte x n) (λ n hn. rw e (below n hn))
     ∙ ap (λ (l : List ℕ). flatten (set ls k l)) (rw e (row-put w i x xs h)))
@@ -217,7 +217,7 @@ module _ (k : ℕ) (ls : List (List ℕ)) (there : k < length ls) (xs : List ℕ
 
   -- all of it, read from its place
   row-in : (w m : ℕ) (reads : List ℕ → ℕ → ℕ) → ((pre : List ℕ) (x : ℕ) (rest : List ℕ) → x < m → reads (pre ++ (bytesFrom w 0 x ++ rest)) (length pre) ≡ x)
-      → getD ls k [] ≡ row w xs → (p n : ℕ) → startOf k ls ≡ p → length xs ≡ n → ((j : ℕ) → getD xs j 0 < m) → rowAt w reads n (flatten ls) p ≡ xs
+      → getD ls k [] ≡ asBytes w xs → (p n : ℕ) → startOf k ls ≡ p → length xs ≡ n → ((j : ℕ) → getD xs j 0 < m) → numbersAt w reads n (flatten ls) p ≡ xs
   row-in w m reads one e p n q en fit =
       read-row w m reads one (flatten ls) (flatten (take k ls)) xs (flatten (drop (suc k) ls)) p n (rw (← e) (split-at k ls there)) (start-long k ls there ∙ q) en fit
 

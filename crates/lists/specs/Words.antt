@@ -30,25 +30,25 @@ unfoldable pub bytesFrom : ℕ → ℕ → ℕ → List ℕ
 bytesFrom zero n x = []
 bytesFrom (suc w) n x = byte x n ∷ bytesFrom w (suc n) x
 
-unfoldable pub row : ℕ → List ℕ → List ℕ
-row w [] = []
-row w (x ∷ xs) = bytesFrom w 0 x ++ row w xs
+unfoldable pub asBytes : ℕ → List ℕ → List ℕ
+asBytes w [] = []
+asBytes w (x ∷ xs) = bytesFrom w 0 x ++ asBytes w xs
 
 -- n of them, from place p on, where one is read so
-unfoldable pub rowAt : ℕ → (List ℕ → ℕ → ℕ) → ℕ → List ℕ → ℕ → List ℕ
-rowAt w reads zero s p = []
-rowAt w reads (suc n) s p = reads s p ∷ rowAt w reads n s (p + w)
+unfoldable pub numbersAt : ℕ → (List ℕ → ℕ → ℕ) → ℕ → List ℕ → ℕ → List ℕ
+numbersAt w reads zero s p = []
+numbersAt w reads (suc n) s p = reads s p ∷ numbersAt w reads n s (p + w)
 
 -- of 16 bits
 abbrev pub halves : List ℕ → List ℕ
-halves xs = row 2 xs
+halves xs = asBytes 2 xs
 
 abbrev pub halvesAt : ℕ → List ℕ → ℕ → List ℕ
-halvesAt n s p = rowAt 2 halfAt n s p
+halvesAt n s p = numbersAt 2 halfAt n s p
 
 -- of 32 bits
 abbrev pub words : List ℕ → List ℕ
-words xs = row 4 xs
+words xs = asBytes 4 xs
 
 abbrev pub wordsAt : ℕ → List ℕ → ℕ → List ℕ
-wordsAt n s p = rowAt 4 wordAt n s p
+wordsAt n s p = numbersAt 4 wordAt n s p

@@ -1,13 +1,13 @@
 -- `stored::banks` meets its contract: the four open pages. Assumes nothing.
 use borrow.Author.Needs.{needs}
 use Rattle.chip.specs.State.{openPage}
-use Rattle.lists.specs.Words.{rowAt}
+use Rattle.lists.specs.Words.{numbersAt}
 use Rattle.block.specs.Block.{decodeControl}
 use Rattle.stored.proofs.banks.Statement.{statement}
 use Rattle.stored.proofs.banks.Tie as tie
 
 returns : tie.Need-returns
-unfolding openPage decodeControl rowAt
+unfolding openPage decodeControl numbersAt
 returns c =
     rw (
       c .open-page4 .ensures,

@@ -4,7 +4,7 @@ use Prim.Native.Nat.{_-_}
 use native.Mathlib.Omega.{arith}
 use lib.ListN.{length}
 use borrow.Author.Needs.{needs}
-use Rattle.lists.specs.Words.{row, words}
+use Rattle.lists.specs.Words.{asBytes, words}
 use Rattle.lists.proofs.RowStores.{word-turn}
 use Rattle.stored.proofs.PutLoops.{Put, put-more, put-all}
 use Rattle.stored.proofs.put_words.Statement.{statement}
@@ -17,7 +17,7 @@ abbrev μ-loop : tie.MeasureT-loop
 μ-loop s₀ at xs i₀ s i = length xs - i
 
 loop-holds : tie.Need-loop-holds Inv-loop μ-loop
-unfolding row
+unfolding asBytes
 loop-holds c = (omega arith, refl, refl)
 
 loop-again : tie.Need-loop-again Inv-loop μ-loop

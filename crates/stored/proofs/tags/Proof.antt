@@ -1,13 +1,13 @@
 -- `stored::tags` meets its contract: the eight tags. Assumes nothing.
 use borrow.Author.Needs.{needs}
 use Rattle.chip.specs.Changes.{tagOf}
-use Rattle.lists.specs.Words.{rowAt}
+use Rattle.lists.specs.Words.{numbersAt}
 use Rattle.block.specs.Block.{decodeControl}
 use Rattle.stored.proofs.tags.Statement.{statement}
 use Rattle.stored.proofs.tags.Tie as tie
 
 returns : tie.Need-returns
-unfolding tagOf decodeControl rowAt
+unfolding tagOf decodeControl numbersAt
 returns c =
     let four = c .before .before .before .before in
     rw (

@@ -1,13 +1,13 @@
 -- `block::fields::registers` meets its contract: the seven, by their numbers. Assumes nothing.
 use borrow.Author.Needs.{needs}
 use Rattle.pixel.specs.Registers.{register}
-use Rattle.lists.specs.Words.{rowAt}
+use Rattle.lists.specs.Words.{numbersAt}
 use Rattle.block.specs.Block.{decodeControl}
 use Rattle.block.proofs.fields.registers.Statement.{statement}
 use Rattle.block.proofs.fields.registers.Tie as tie
 
 returns : tie.Need-returns
-unfolding register decodeControl rowAt
+unfolding register decodeControl numbersAt
 returns c =
     rw (
       c .register7 .ensures,
