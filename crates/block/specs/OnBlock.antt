@@ -6,27 +6,24 @@ use lib.Dec.{eqb}
 use lib.ListN.{length}
 use Rattle.numbers.specs.Numbers.{first, whenDone}
 use Rattle.layout.specs.Memory.{pagesFit}
-use Rattle.chip.specs.declared.Answer.{Answer}
-use Rattle.chip.specs.declared.Answer.the-variants.{Refused}
-use Rattle.chip.specs.declared.Refusal.the-variants.{IllFormed}
 use Rattle.chip.specs.declared.Call.{Call}
 use Rattle.chip.specs.State.{freshOf}
-use Rattle.chip.specs.Answers.{packedOf}
+use Rattle.chip.specs.Answers.{GivenBack, numbered, packed}
 use Rattle.chip.specs.Refusals.{scanLineNumber}
-use Rattle.chip.specs.Calls.{answeredOf, memoryOf}
+use Rattle.chip.specs.Calls.{callGiven, chipOf, memoryOf}
 use Rattle.block.specs.Block.{blockBytes, encode, decode, wellFormedBlock}
 
--- 01, Numbers, 1: block not of its length, or state not well formed; else as the call answers
-unfoldable pub blockAnswer : List ℕ → List ℕ → Call → Answer
-blockAnswer s memory x = cond (wellFormedBlock s) (answeredOf (decode s) memory x .answer) (Refused IllFormed)
+-- 01, Numbers, 1: block not of its length, or state not well formed; else what the call gives back
+unfoldable pub blockGiven : List ℕ → List ℕ → Call → GivenBack
+blockGiven s memory x = cond (wellFormedBlock s) (callGiven (decode s) memory x) (numbered 1)
 
 -- 01, Numbers: the C door gives one 64-bit number
 unfoldable pub callNumber : List ℕ → List ℕ → Call → ℕ
-callNumber s memory x = packedOf (blockAnswer s memory x)
+callNumber s memory x = packed (blockGiven s memory x)
 
 -- the state block after a call. (A refused call leaves the chip, and so the block: law `encode-decode`)
 unfoldable pub blockAfter : List ℕ → List ℕ → Call → List ℕ
-blockAfter s memory x = cond (wellFormedBlock s) (encode (answeredOf (decode s) memory x .chip)) s
+blockAfter s memory x = cond (wellFormedBlock s) (encode (chipOf (decode s) memory x)) s
 
 -- the memory after a call
 unfoldable pub blockMemory : List ℕ → List ℕ → Call → List ℕ

@@ -9,7 +9,7 @@ use lib.Bits.{bitOr, or-lt}
 use lib.Pow.{pow-pos}
 use lib.Dec.{lit<}
 use lib.ListN.{getD}
-use Rattle.bits.specs.Bits.{bit, wordIn}
+use Rattle.bits.specs.Bits.{bit, digit, wordIn}
 use Rattle.pixel.specs.declared.Write.{Write}
 use Rattle.pixel.specs.declared.Outcome.{Outcome}
 use Rattle.pixel.specs.Registers.{register, freshRegisters}
@@ -22,14 +22,12 @@ use Rattle.bank.specs.Work.{inSlot}
 use Rattle.lists.proofs.Words.{word-at-once, part-bytes}
 use Rattle.chip.specs.declared.Control.{Control}
 use Rattle.chip.specs.declared.Call.{Call}
-use Rattle.chip.specs.declared.Answer.{Answer}
-use Rattle.chip.specs.declared.Answer.the-variants.{Done}
 use Rattle.chip.specs.State.{slots}
 use Rattle.chip.specs.Operations.{row, allZero, dataWrite, inRange}
 use Rattle.chip.specs.Painting.{painted, marked, tagWith}
 use Rattle.chip.specs.Changes.{tagOf, withTag, withFlags, withHit, ticked}
 use Rattle.chip.specs.Effects.{slotByte, reading, effect, pixelsAfter}
-use Rattle.chip.specs.Answers.{doneAnswer}
+use Rattle.chip.specs.Answers.{GivenBack, doneWith, effectGiven}
 use Rattle.chip.specs.Refusals.{asks}
 use Rattle.chip.proofs.Accepted.{write-range}
 use Rattle.chip.proofs.Tags.{mark-law}
@@ -37,9 +35,9 @@ use Rattle.chip.proofs.SlotWords.{slot-word}
 use Rattle.block.specs.Block.{flagsAt, encode, decodeControl, wellFormedBlock, pixelsIn, pixelsAt, pixelBytes}
 use Rattle.block.proofs.Puts.{Stores, stores-of, stores-tag, stores-flags, stores-word, ticks, control-stored}
 use Rattle.lists.proofs.Rows.{words-lt}
-use Rattle.own.specs.Own.{ownAnswer, ownBlock, hitMarked, settled}
+use Rattle.own.specs.Own.{ownGiven, ownBlock, hitMarked, settled}
 use Rattle.own.proofs.OwnLines.{asked}
-use Rattle.own.proofs.Owns.{by-asks, done-answer, done-block}
+use Rattle.own.proofs.Owns.{by-asks, done-given, done-block}
 
 -- ---- the destination's word
 
@@ -103,11 +101,11 @@ pub write-in-range : (P : ℕ) (w : Write) {fits : Bool} → fits ≡ (inRange 8
     → (w .slot < 8) × (w .word < 8) × (w .enables < 16) × (w .passin < 4)
 write-in-range P w told left = write-range 8 P w (and-left (inRange 8 P (dataWrite w)) (allZero []) (test-holds told left))
 
--- what a data write of either kind answers: pass and written of the outcome, whatever stands at its destination
-write-answers : (s : List ℕ) (w : Write) (dest : ℕ) → (let o = outcomeOf (decodeControl s .registers) w (wordIn (slotByte (pixelsIn s) (w .slot)) (w .word)) dest in
-    Done 0 (o .pass) (o .written) ≡ doneAnswer (effect slots (decodeControl s) (dataWrite w) (reading (slotByte (pixelsIn s)) (dataWrite w))))
+-- what a data write of either kind gives back: pass and written of the outcome, whatever stands at its destination
+write-gives : (s : List ℕ) (w : Write) (dest : ℕ) → (let o = outcomeOf (decodeControl s .registers) w (wordIn (slotByte (pixelsIn s) (w .slot)) (w .word)) dest in
+    doneWith 0 (digit (o .pass)) (digit (o .written)) ≡ effectGiven (effect slots (decodeControl s) (dataWrite w) (reading (slotByte (pixelsIn s)) (dataWrite w))))
 unfolding effect reading outcomeOf
-write-answers s w dest = refl
+write-gives s w dest = refl
 
 -- what it leaves of a well formed block
 module _ (s : List ℕ) (bytes : (a : ℕ) → getD s a 0 < 2 ^ 8) (well : wellFormedBlock s ≡ true) (w : Write) where
@@ -140,13 +138,13 @@ module _ (s : List ℕ) (bytes : (a : ℕ) → getD s a 0 < 2 ^ 8) (well : wellF
   -- past the test of its operands the call is done, and `settle` ends it with the outcome at its destination
   pub write-done : (x : Call) → row x ≡ (dataWrite w, []) → {fits : Bool} → fits ≡ (inRange slots (decodeControl s .pages) (dataWrite w) && allZero []) → not fits ≡ false
       → {read : List ℕ} → read ≡ registers → {to word : ℕ} {o : Outcome} → to ≡ intoSlot 8 read w → word ≡ intoWord read w → o ≡ outcomeOf read w old (wordIn (slotByte (pixelsIn s) to) word)
-      → {answer : Answer} {after : List ℕ} → (answer ≡ Done 0 (o .pass) (o .written)) × (after ≡ settled w to word o s)
-      → (answer ≡ ownAnswer s x) × ((memory : List ℕ) → after ≡ ownBlock s memory x)
+      → {given : GivenBack} {after : List ℕ} → (given ≡ doneWith 0 (digit (o .pass)) (digit (o .written))) × (after ≡ settled w to word o s)
+      → (given ≡ ownGiven s x) × ((memory : List ℕ) → after ≡ ownBlock s memory x)
   unfolding slots asks first
   write-done x r told left same {to} {word} there here drew ends =
       let none = by-asks (decodeControl s) (dataWrite w) [] (test-holds told left) refl in
       let range = write-in-range (decodeControl s .pages) w told left in (
-        ends .0 ∙ ap (λ (o : Outcome). Done 0 (o .pass) (o .written)) (drew ∙ ap (λ (l : List ℕ). outcomeOf l w old (wordIn (slotByte (pixelsIn s) to) word)) same) ∙ write-answers s w (wordIn (slotByte (pixelsIn s) to) word) ∙ done-answer s x (dataWrite w) [] r none,
+        ends .0 ∙ ap (λ (o : Outcome). doneWith 0 (digit (o .pass)) (digit (o .written))) (drew ∙ ap (λ (l : List ℕ). outcomeOf l w old (wordIn (slotByte (pixelsIn s) to) word)) same) ∙ write-gives s w (wordIn (slotByte (pixelsIn s) to) word) ∙ done-given s x (dataWrite w) [] r none,
         λ memory. ends .1 ∙ rw (drew, there, here, same) (write-leaves (range .0) (range .1) (range .2) memory ∙ done-block s x (dataWrite w) [] r none memory),
       )
 

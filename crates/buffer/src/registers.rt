@@ -14,8 +14,9 @@ ghost use Rattle.bits.specs.Bits.{digit};
 ghost use Rattle.lists.specs.Words.{putWord};
 ghost use Rattle.chip.specs.State.{writable};
 ghost use Rattle.chip.specs.Changes.{switched};
+ghost use Rattle.chip.specs.Answers.{givenBack};
 ghost use Rattle.block.specs.Block.{IsBlock, registerAt, flagsAt, decodeControl, wellFormedBlock};
-ghost use Rattle.own.specs.Own.{ownAnswer, ownBlock};
+ghost use Rattle.own.specs.Own.{ownGiven, ownBlock};
 
 // The bits that may be 1 in a write of a register. No table: an array that is indexed is copied at each use.
 fn writable_bits(number: u32) -> u32
@@ -52,7 +53,7 @@ fn put_compare(s: &mut [u8], value: u32)
 
 pub fn write_register(s: &mut [u8], x: Call) -> Answer
     requires { ⌜ IsBlock (now s) × (wellFormedBlock (now s) ≡ true) × (x .op ≡ 14) ⌝ }
-    ensures { λ r. ⌜ (r ≡ ownAnswer (now (s .entry)) x) × ((memory : List ℕ) → now (s .exit) ≡ ownBlock (now (s .entry)) memory x) ⌝ }
+    ensures { λ r. ⌜ (givenBack r ≡ ownGiven (now (s .entry)) x) × ((memory : List ℕ) → now (s .exit) ≡ ownBlock (now (s .entry)) memory x) ⌝ }
 {
     if !operands::register_fits(x) {
         return Answer::Refused(Refusal::OperandOutside);
@@ -70,7 +71,7 @@ pub fn write_register(s: &mut [u8], x: Call) -> Answer
 
 pub fn read_register(s: &mut [u8], x: Call) -> Answer
     requires { ⌜ IsBlock (now s) × (wellFormedBlock (now s) ≡ true) × (x .op ≡ 15) ⌝ }
-    ensures { λ r. ⌜ (r ≡ ownAnswer (now (s .entry)) x) × ((memory : List ℕ) → now (s .exit) ≡ ownBlock (now (s .entry)) memory x) ⌝ }
+    ensures { λ r. ⌜ (givenBack r ≡ ownGiven (now (s .entry)) x) × ((memory : List ℕ) → now (s .exit) ≡ ownBlock (now (s .entry)) memory x) ⌝ }
 {
     if !operands::number_fits(x) {
         return Answer::Refused(Refusal::OperandOutside);

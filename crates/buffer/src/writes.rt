@@ -10,11 +10,12 @@ ghost use mathlib.Core.Path.{_≡_};
 ghost use mathlib.Core.Bool.{true, false};
 ghost use mathlib.Core.List.{List};
 ghost use Prim.Native.Nat.{ℕ, _<_, _≤_};
-ghost use Rattle.bits.specs.Bits.{wordIn};
+ghost use Rattle.bits.specs.Bits.{digit, wordIn};
 ghost use Rattle.pixel.specs.Writes.{outcomeOf};
 ghost use Rattle.chip.specs.Effects.{slotByte};
+ghost use Rattle.chip.specs.Answers.{doneWith, givenBack};
 ghost use Rattle.block.specs.Block.{IsBlock, pixelsIn, wellFormedBlock};
-ghost use Rattle.own.specs.Own.{ownAnswer, ownBlock, hitMarked, settled};
+ghost use Rattle.own.specs.Own.{ownGiven, ownBlock, hitMarked, settled};
 
 // Picking is on already where it matters, and hit is set: both bits of the flags.
 fn mark_hit(s: &mut [u8], hits: bool)
@@ -29,7 +30,7 @@ fn mark_hit(s: &mut [u8], hits: bool)
 // A write's outcome, put at its destination: the word, its tag bits, hit, and one call more.
 fn settle(s: &mut [u8], w: Write, slot: u32, word: u32, o: Outcome) -> Answer
     requires { ⌜ IsBlock (now s) × (slot < 8) × (word < 8) ⌝ }
-    ensures { λ r. ⌜ (r ≡ Answer.Done 0 (o .pass) (o .written)) × (now (s .exit) ≡ settled w slot word o (now (s .entry))) ⌝ }
+    ensures { λ r. ⌜ (givenBack r ≡ doneWith 0 (digit (o .pass)) (digit (o .written))) × (now (s .exit) ≡ settled w slot word o (now (s .entry))) ⌝ }
 {
     let before = bits::pick(w.initial, 0, fields::tag(s, slot));
     fields::put_slot_word(s, slot, word, o.word);
@@ -55,7 +56,7 @@ fn drawn(s: &[u8], registers: [u32; 7], w: Write, slot: u32, word: u32) -> Outco
 
 pub fn stateful_write(s: &mut [u8], x: Call) -> Answer
     requires { ⌜ IsBlock (now s) × (wellFormedBlock (now s) ≡ true) × (10 ≤ x .op) × (x .op ≤ 11) ⌝ }
-    ensures { λ r. ⌜ (r ≡ ownAnswer (now (s .entry)) x) × ((memory : List ℕ) → now (s .exit) ≡ ownBlock (now (s .entry)) memory x) ⌝ }
+    ensures { λ r. ⌜ (givenBack r ≡ ownGiven (now (s .entry)) x) × ((memory : List ℕ) → now (s .exit) ≡ ownBlock (now (s .entry)) memory x) ⌝ }
 {
     if !operands::write_fits(x) {
         return Answer::Refused(Refusal::OperandOutside);
@@ -79,7 +80,7 @@ pub fn stateful_write(s: &mut [u8], x: Call) -> Answer
 // Its destination is (slot, word) whatever the registers hold.
 pub fn stateless_write(s: &mut [u8], x: Call) -> Answer
     requires { ⌜ IsBlock (now s) × (wellFormedBlock (now s) ≡ true) × (8 ≤ x .op) × (x .op ≤ 9) ⌝ }
-    ensures { λ r. ⌜ (r ≡ ownAnswer (now (s .entry)) x) × ((memory : List ℕ) → now (s .exit) ≡ ownBlock (now (s .entry)) memory x) ⌝ }
+    ensures { λ r. ⌜ (givenBack r ≡ ownGiven (now (s .entry)) x) × ((memory : List ℕ) → now (s .exit) ≡ ownBlock (now (s .entry)) memory x) ⌝ }
 {
     if !operands::write_fits(x) {
         return Answer::Refused(Refusal::OperandOutside);

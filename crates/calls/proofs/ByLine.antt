@@ -10,27 +10,24 @@ use Rattle.numbers.specs.Numbers.{first, whenDone}
 use Rattle.numbers.proofs.Tests.{and-left, and-right}
 use Rattle.layout.specs.Memory.{size}
 use Rattle.chip.specs.declared.Call.{Call}
-use Rattle.chip.specs.declared.Answer.{Answer}
-use Rattle.chip.specs.declared.Answer.the-variants.{Refused}
-use Rattle.chip.specs.declared.Refusal.the-variants.{IllFormed, MemoryLength, UnknownOperation}
 use Rattle.chip.specs.State.{slots}
 use Rattle.chip.specs.Operations.{Operation, isOperation, row, operation}
 use Rattle.chip.specs.Effects.{reading, slotByte, Move, effect, memoryAfter}
-use Rattle.chip.specs.Answers.{refusalOf}
+use Rattle.chip.specs.Answers.{GivenBack, numbered}
 use Rattle.chip.specs.Refusals.{number}
-use Rattle.chip.specs.Calls.{readIn, answeredWith, memoryWith, answeredOf, memoryOf}
+use Rattle.chip.specs.Calls.{readIn, givenWith, chipWith, memoryWith, callGiven, chipOf, memoryOf}
 use Rattle.block.specs.Block.{decodeControl, decode, wellFormedBlock, pixelsIn}
-use Rattle.block.specs.OnBlock.{blockAnswer, blockAfter, blockMemory}
+use Rattle.block.specs.OnBlock.{blockGiven, blockAfter, blockMemory}
 use Rattle.block.proofs.RoundTrip.{encode-decode}
-use Rattle.own.specs.Own.{ownNumber, ownAnswer, ownBlock, ownMemory}
+use Rattle.own.specs.Own.{ownNumber, ownGiven, ownBlock, ownMemory}
 use Rattle.own.proofs.WellFormed.{well-control}
 
 -- what a call on a block comes to
-abbrev pub Comes : List ℕ → List ℕ → Call → Answer → List ℕ → List ℕ → Type 0
-Comes s memory x a s' memory' = (a ≡ blockAnswer s memory x) × (s' ≡ blockAfter s memory x) × (memory' ≡ blockMemory s memory x)
+abbrev pub Comes : List ℕ → List ℕ → Call → GivenBack → List ℕ → List ℕ → Type 0
+Comes s memory x g s' memory' = (g ≡ blockGiven s memory x) × (s' ≡ blockAfter s memory x) × (memory' ≡ blockMemory s memory x)
 
-pub ill-formed : (s memory : List ℕ) (x : Call) → wellFormedBlock s ≡ false → Comes s memory x (Refused IllFormed) s memory
-unfolding blockAnswer blockAfter blockMemory
+pub ill-formed : (s memory : List ℕ) (x : Call) → wellFormedBlock s ≡ false → Comes s memory x (numbered 1) s memory
+unfolding blockGiven blockAfter blockMemory
 ill-formed s memory x e = (rw e, rw e, rw e)
 
 -- a block that is well formed, and a memory of its size
@@ -41,13 +38,12 @@ pub record Ready (s memory : List ℕ) : Type 0 where
 
 -- by the number that the definitions give
 refusal : (s memory : List ℕ) (x : Call) → ((a : ℕ) → getD s a 0 < 2 ^ 8) → wellFormedBlock s ≡ true
-    → {k : ℕ} → number slots (decodeControl s) (length memory) x ≡ suc k → Comes s memory x (Refused (refusalOf (suc k))) s memory
-unfolding blockAnswer blockAfter blockMemory answeredOf answeredWith memoryOf memoryWith decode
+    → {k : ℕ} → number slots (decodeControl s) (length memory) x ≡ suc k → Comes s memory x (numbered (suc k)) s memory
+unfolding blockGiven blockAfter blockMemory callGiven givenWith chipOf chipWith memoryOf memoryWith decode
 refusal s memory x bytes well e = (rw (well, e), rw (well, e) (sym (unfold decode in encode-decode s bytes well)), rw (well, e))
 
 pub wrong-length : (s memory : List ℕ) (x : Call) → ((a : ℕ) → getD s a 0 < 2 ^ 8) → wellFormedBlock s ≡ true
-    → eqb (length memory) (size (decodeControl s .pages)) ≡ false → Comes s memory x (Refused MemoryLength) s memory
-unfolding refusalOf
+    → eqb (length memory) (size (decodeControl s .pages)) ≡ false → Comes s memory x (numbered 2) s memory
 wrong-length s memory x bytes well e = refusal s memory x bytes well {k = 1} (unfold number first in rw (well-control s well, e))
 
 -- what an operation moves, if it is done
@@ -68,8 +64,7 @@ untouched s memory x o unused r e = go (ownNumber s x)
     go (suc k) = refl
 
 module _ {s memory : List ℕ} (ready : Ready s memory) (x : Call) where
-  pub unknown : isOperation (x .op) ≡ false → Comes s memory x (Refused UnknownOperation) s memory
-  unfolding refusalOf
+  pub unknown : isOperation (x .op) ≡ false → Comes s memory x (numbered 3) s memory
   unknown e = refusal s memory x (ready .bytes) (ready .well) {k = 2}
       (unfold number first in rw (well-control s (ready .well), eq-eqb _ _ (ready .sized), e))
 
@@ -78,32 +73,32 @@ module _ {s memory : List ℕ} (ready : Ready s memory) (x : Call) where
   number-own l h = rw (well-control s (ready .well), eq-eqb _ _ (ready .sized), le-leb 1 (x .op) l, le-leb (x .op) 15 h)
 
   done : number slots (decodeControl s) (length memory) x ≡ 0 → ownNumber s x ≡ 0
-      → Comes s memory x (ownAnswer s x) (ownBlock s memory x) (ownMemory s memory x)
-  unfolding ownAnswer ownBlock ownMemory blockAnswer blockAfter blockMemory answeredOf answeredWith memoryOf memoryWith decode
+      → Comes s memory x (ownGiven s x) (ownBlock s memory x) (ownMemory s memory x)
+  unfolding ownGiven ownBlock ownMemory blockGiven blockAfter blockMemory callGiven givenWith chipOf chipWith memoryOf memoryWith decode
   done n e = (rw (ready .well, n, e), rw (ready .well, n, e), rw (ready .well, n, e))
 
-  known : 1 ≤ x .op → x .op ≤ 15 → Comes s memory x (ownAnswer s x) (ownBlock s memory x) (ownMemory s memory x)
-  unfolding ownAnswer ownBlock ownMemory
+  known : 1 ≤ x .op → x .op ≤ 15 → Comes s memory x (ownGiven s x) (ownBlock s memory x) (ownMemory s memory x)
+  unfolding ownGiven ownBlock ownMemory
   known l h = go (ownNumber s x) refl
     where
-      go : (k : ℕ) → ownNumber s x ≡ k → Comes s memory x (ownAnswer s x) (ownBlock s memory x) (ownMemory s memory x)
+      go : (k : ℕ) → ownNumber s x ≡ k → Comes s memory x (ownGiven s x) (ownBlock s memory x) (ownMemory s memory x)
       go zero e = done (number-own l h ∙ e) e
       go (suc k) e = rw e (refusal s memory x (ready .bytes) (ready .well) (number-own l h ∙ e))
 
   -- code that does as its operation's own line says
-  pub by-its-line : {a : Answer} {s' memory' : List ℕ} → 1 ≤ x .op → x .op ≤ 15
-      → a ≡ ownAnswer s x → s' ≡ ownBlock s memory x → memory' ≡ ownMemory s memory x → Comes s memory x a s' memory'
-  by-its-line l h answers blocks memories = let k = known l h in (answers ∙ k .0, blocks ∙ k .1, memories ∙ k .2)
+  pub by-its-line : {g : GivenBack} {s' memory' : List ℕ} → 1 ≤ x .op → x .op ≤ 15
+      → g ≡ ownGiven s x → s' ≡ ownBlock s memory x → memory' ≡ ownMemory s memory x → Comes s memory x g s' memory'
+  by-its-line l h gives blocks memories = let k = known l h in (gives ∙ k .0, blocks ∙ k .1, memories ∙ k .2)
 
   -- the same, of an operation that does nothing to memory
-  pub beside-memory : {a : Answer} {s' : List ℕ} {o : Operation} {unused : List ℕ} → row x ≡ (o, unused)
+  pub beside-memory : {g : GivenBack} {s' : List ℕ} {o : Operation} {unused : List ℕ} → row x ≡ (o, unused)
       → memoryAfter (decodeControl s) (pixelsIn s) memory (does s o) ≡ memory → 1 ≤ x .op → x .op ≤ 15
-      → a ≡ ownAnswer s x → s' ≡ ownBlock s memory x → Comes s memory x a s' memory
-  beside-memory r e l h answers blocks = by-its-line l h answers blocks (untouched s memory x _ _ r e)
+      → g ≡ ownGiven s x → s' ≡ ownBlock s memory x → Comes s memory x g s' memory
+  beside-memory r e l h gives blocks = by-its-line l h gives blocks (untouched s memory x _ _ r e)
 
   -- and by its number, which the code's match tells
-  pub at-number : {a : Answer} {s' : List ℕ} {o : Operation} {unused : List ℕ} {k : ℕ} → x .op ≡ k → isOperation k ≡ true → (x .op ≡ k → row x ≡ (o, unused))
-      → memoryAfter (decodeControl s) (pixelsIn s) memory (does s o) ≡ memory → (a ≡ ownAnswer s x) × (s' ≡ ownBlock s memory x) → Comes s memory x a s' memory
+  pub at-number : {g : GivenBack} {s' : List ℕ} {o : Operation} {unused : List ℕ} {k : ℕ} → x .op ≡ k → isOperation k ≡ true → (x .op ≡ k → row x ≡ (o, unused))
+      → memoryAfter (decodeControl s) (pixelsIn s) memory (does s o) ≡ memory → (g ≡ ownGiven s x) × (s' ≡ ownBlock s memory x) → Comes s memory x g s' memory
   unfolding isOperation
   at-number {k = k} is known-op line e own = beside-memory (line is) e
       (rw is (leb-true 1 k (and-left (leb 1 k) (leb k 15) known-op))) (rw is (leb-true k 15 (and-right (leb 1 k) (leb k 15) known-op))) (own .0) (own .1)

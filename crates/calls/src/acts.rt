@@ -15,13 +15,14 @@ ghost use mathlib.Core.Bool.{true};
 ghost use Prim.Native.Nat.{_≤_};
 ghost use lib.ListN.{length};
 ghost use Rattle.layout.specs.Memory.{size};
+ghost use Rattle.chip.specs.Answers.{givenBack};
 ghost use Rattle.block.specs.Block.{IsBlock, decodeControl, wellFormedBlock};
-ghost use Rattle.block.specs.OnBlock.{blockAnswer, blockAfter, blockMemory};
+ghost use Rattle.block.specs.OnBlock.{blockGiven, blockAfter, blockMemory};
 
 // Each operation but the stateful writes, and the refusal of a number that no operation has.
 fn other(s: &mut [u8], memory: &mut [u8], x: Call) -> Answer
     requires { ⌜ IsBlock (now s) × (wellFormedBlock (now s) ≡ true) × (length (now memory) ≡ size (decodeControl (now s) .pages)) × (10 ≤ x .op → 12 ≤ x .op) ⌝ }
-    ensures { λ r. ⌜ (r ≡ blockAnswer (now (s .entry)) (now (memory .entry)) x) × (now (s .exit) ≡ blockAfter (now (s .entry)) (now (memory .entry)) x) × (now (memory .exit) ≡ blockMemory (now (s .entry)) (now (memory .entry)) x) ⌝ }
+    ensures { λ r. ⌜ (givenBack r ≡ blockGiven (now (s .entry)) (now (memory .entry)) x) × (now (s .exit) ≡ blockAfter (now (s .entry)) (now (memory .entry)) x) × (now (memory .exit) ≡ blockMemory (now (s .entry)) (now (memory .entry)) x) ⌝ }
 {
     let op = x.op;
     match op {
@@ -42,7 +43,7 @@ fn other(s: &mut [u8], memory: &mut [u8], x: Call) -> Answer
 // Stateful writes are most of a drawing, so they are told apart first.
 fn operate(s: &mut [u8], memory: &mut [u8], x: Call) -> Answer
     requires { ⌜ IsBlock (now s) × (wellFormedBlock (now s) ≡ true) × (length (now memory) ≡ size (decodeControl (now s) .pages)) ⌝ }
-    ensures { λ r. ⌜ (r ≡ blockAnswer (now (s .entry)) (now (memory .entry)) x) × (now (s .exit) ≡ blockAfter (now (s .entry)) (now (memory .entry)) x) × (now (memory .exit) ≡ blockMemory (now (s .entry)) (now (memory .entry)) x) ⌝ }
+    ensures { λ r. ⌜ (givenBack r ≡ blockGiven (now (s .entry)) (now (memory .entry)) x) × (now (s .exit) ≡ blockAfter (now (s .entry)) (now (memory .entry)) x) × (now (memory .exit) ≡ blockMemory (now (s .entry)) (now (memory .entry)) x) ⌝ }
 {
     let op = x.op;
     match op {
@@ -52,7 +53,7 @@ fn operate(s: &mut [u8], memory: &mut [u8], x: Call) -> Answer
 }
 
 pub fn act(s: &mut [u8], memory: &mut [u8], x: Call) -> Answer
-    ensures { λ r. ⌜ (r ≡ blockAnswer (now (s .entry)) (now (memory .entry)) x) × (now (s .exit) ≡ blockAfter (now (s .entry)) (now (memory .entry)) x) × (now (memory .exit) ≡ blockMemory (now (s .entry)) (now (memory .entry)) x) ⌝ }
+    ensures { λ r. ⌜ (givenBack r ≡ blockGiven (now (s .entry)) (now (memory .entry)) x) × (now (s .exit) ≡ blockAfter (now (s .entry)) (now (memory .entry)) x) × (now (memory .exit) ≡ blockMemory (now (s .entry)) (now (memory .entry)) x) ⌝ }
 {
     if !form::well_formed(s) {
         return Answer::Refused(Refusal::IllFormed);

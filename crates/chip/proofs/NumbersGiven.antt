@@ -1,23 +1,21 @@
--- The number that a call answers is the first that applies: it is below 8, and each refusal has its own number back. Assumes nothing.
-use mathlib.Core.Path.{_≡_, refl}
-use mathlib.Core.Logic.{_≢_}
+-- The number that a call gives back is the first that applies; a refusal changes nothing; and what is given back says which answer it is. Assumes nothing.
+use mathlib.Core.Path.{_≡_, refl, sym, ap, _∙_}
 use mathlib.Core.Bool.{Bool, true, false, cond}
 use mathlib.Core.List.{List, [], _∷_}
-use Prim.Native.Nat.{ℕ, zero, suc, _+_, _-_, _<_, _≤_}
-use native.Mathlib.Omega.{arith}
+use Prim.Native.Nat.{ℕ, zero, suc, _-_, _<_}
 use lib.Dec.{eqb, lit<}
-use lib.ListN.{length}
-use borrow.Author.Tests.{eqb-true}
-use Rattle.bits.specs.Bits.{every}
-use Rattle.bits.proofs.Bytes.{every-at}
-use Rattle.numbers.specs.Numbers.{first}
+use lib.ListN.{length, getD}
+use Rattle.numbers.specs.Numbers.{first, whenDone}
+use Rattle.chip.specs.declared.Answer.{Answer}
+use Rattle.chip.specs.declared.Answer.the-variants.{Done, Refused}
+use Rattle.chip.specs.declared.Refusal.the-variants.{IllFormed, MemoryLength, UnknownOperation, OperandOutside, BitNotAllowed, BankOpen, BankClosed}
 use Rattle.chip.specs.declared.Call.{Call}
-use Rattle.chip.specs.declared.Chip.{Chip}
 use Rattle.chip.specs.declared.Control.{Control}
 use Rattle.chip.specs.Operations.{Operation, access, precharge, duplicate, readBlock, writeBlock, dataRead, dataWrite, writeTag, writeRegister, readRegister, unknown, operation}
-use Rattle.chip.specs.Answers.{refusalNumber, refusalOf, numberOf}
+use Rattle.chip.specs.Answers.{GivenBack, numbered, effectGiven, givenBack}
 use Rattle.chip.specs.Refusals.{asks, callTests, number}
-use Rattle.chip.specs.Calls.{answeredWith, memoryWith}
+use Rattle.chip.specs.Calls.{effectIn, givenWith, chipWith, memoryWith}
+use Rattle.chip.specs.Promises.{NumbersGiven, RefusalChangesNothing}
 
 -- each number of a list of tests is below m
 abbrev Below : ℕ → List (ℕ × Bool) → Type 0
@@ -52,32 +50,57 @@ pub number-lt : (n : ℕ) (c : Control) (len : ℕ) (x : Call) → number n c le
 unfolding number callTests
 number-lt n c len x = first-lt 8 _ (lit< tt) (lit< tt, (lit< tt, (lit< tt, (lit< tt, asks-lt c (operation x)))))
 
--- the refusal of a number has that number
-pub refusal-back : (k : ℕ) → 1 ≤ k → k < 9 → refusalNumber (refusalOf k) ≡ k
-unfolding refusalOf every
-refusal-back k l h =
-    let back : k - 1 + 1 ≡ k = omega arith in
-    let test : ℕ → Bool = λ i. eqb (refusalNumber (refusalOf (i + 1))) (i + 1) in
-    rw back at (eqb-true (refusalNumber (refusalOf (k - 1 + 1))) (k - 1 + 1) (every-at 8 test refl (k - 1) (omega arith)))
-
 -- 01, Numbers: numbers are given exactly when stated
-pub numbers-given : (n : ℕ) (chip : Chip) (memory : List ℕ) (x : Call)
-    → numberOf (answeredWith n chip memory x .answer) ≡ number n (chip .control) (length memory) x
-unfolding answeredWith
-numbers-given n chip memory x = go (number n (chip .control) (length memory) x) refl
+pub numbers-given : NumbersGiven
+unfolding NumbersGiven givenWith
+numbers-given n chip memory x = go (number n (chip .control) (length memory) x)
   where
-    go : (k : ℕ) → number n (chip .control) (length memory) x ≡ k
-        → numberOf (answeredWith n chip memory x .answer) ≡ number n (chip .control) (length memory) x
-    go zero e = rw e
-    go (suc k) e = rw e (refusal-back (suc k) (omega arith) (omega (arith, e, number-lt n (chip .control) (length memory) x)))
+    go : (k : ℕ) → whenDone k (effectGiven (effectIn n (chip .control) (chip .pixels) x)) (numbered k) .number ≡ k
+    go zero = refl
+    go (suc k) = refl
 
 -- 01, Numbers: a refusal changes nothing, the counter included
-pub refusal-changes-nothing : (n : ℕ) (chip : Chip) (memory : List ℕ) (x : Call) → number n (chip .control) (length memory) x ≢ 0
-    → (answeredWith n chip memory x .chip ≡ chip) × (memoryWith n chip memory x ≡ memory)
-unfolding answeredWith memoryWith
+pub refusal-changes-nothing : RefusalChangesNothing
+unfolding RefusalChangesNothing givenWith chipWith memoryWith
 refusal-changes-nothing n chip memory x f = go (number n (chip .control) (length memory) x) refl
   where
     go : (k : ℕ) → number n (chip .control) (length memory) x ≡ k
-        → (answeredWith n chip memory x .chip ≡ chip) × (memoryWith n chip memory x ≡ memory)
+        → (givenWith n chip memory x ≡ numbered (number n (chip .control) (length memory) x))
+        × (chipWith n chip memory x ≡ chip) × (memoryWith n chip memory x ≡ memory)
     go zero e = absurd (f e)
-    go (suc k) e = (rw e, rw e)
+    go (suc k) e = (rw e, rw e, rw e)
+
+-- ---- equal numbers and values are equal answers
+
+-- the answer that has this number and these values
+from : GivenBack → Answer
+from g = cond (eqb (g .number) 0)
+    (Done (g .value) (eqb (g .pass) 1) (eqb (g .written) 1))
+    (Refused (getD
+    (IllFormed
+    ∷ MemoryLength
+    ∷ UnknownOperation
+    ∷ OperandOutside
+    ∷ BitNotAllowed
+    ∷ BankOpen
+    ∷ BankClosed
+    ∷ [])
+    (g .number - 1) IllFormed))
+
+from-given : (a : Answer) → from (givenBack a) ≡ a
+unfolding from
+from-given (Done value true true) = refl
+from-given (Done value true false) = refl
+from-given (Done value false true) = refl
+from-given (Done value false false) = refl
+from-given (Refused IllFormed) = refl
+from-given (Refused MemoryLength) = refl
+from-given (Refused UnknownOperation) = refl
+from-given (Refused OperandOutside) = refl
+from-given (Refused BitNotAllowed) = refl
+from-given (Refused BankOpen) = refl
+from-given (Refused BankClosed) = refl
+
+-- 01, Expected form: so the promise determines the answer
+pub answer-determined : (a b : Answer) → givenBack a ≡ givenBack b → a ≡ b
+answer-determined a b e = sym (from-given a) ∙ ap from e ∙ from-given b

@@ -14,11 +14,9 @@ use borrow.Author.Tests.{eq-eqb, ne-eqb, le-leb}
 use Rattle.bits.specs.Bits.{every, within}
 use Rattle.numbers.specs.Numbers.{first}
 use Rattle.layout.specs.Memory.{lineNumber}
-use Rattle.layout.proofs.ScanLines.{line-number-formed}
 use Rattle.chip.specs.declared.Control.{Control}
 use Rattle.chip.specs.State.{closed, pageFits, storable, wellFormed}
 use Rattle.chip.specs.Refusals.{scanLineNumber}
-use Rattle.chip.proofs.Accepted.{formed}
 
 -- ---- an open page
 
@@ -49,5 +47,5 @@ register-test l fit = rw (any-bits (getD l 0 0) (fit 0), any-bits (getD l 1 0) (
 -- ---- a scan line of a well formed state is refused by layout's numbers
 
 pub line-told : (c : Control) (len bank page line : ℕ) → wellFormed c ≡ true → lineNumber (c .pages) len bank page line ≡ scanLineNumber c len bank page line
-unfolding scanLineNumber first
-line-told c len bank page line well = rw well (line-number-formed (c .pages) len bank page line (formed c well .0))
+unfolding scanLineNumber lineNumber first
+line-told c len bank page line well = rw well

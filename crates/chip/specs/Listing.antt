@@ -4,11 +4,10 @@ use mathlib.Core.List.{List, [], _∷_}
 use Prim.Native.Nat.{ℕ}
 use lib.ListN.{replicate}
 use Rattle.chip.specs.declared.Call.{Call}
-use Rattle.chip.specs.declared.Answer.{Answer}
 use Rattle.chip.specs.Operations.{ask}
 use Rattle.chip.specs.State.{freshOf}
-use Rattle.chip.specs.Answers.{numberOf, valueOf, passOf, writtenOf}
-use Rattle.chip.specs.Calls.{answersOf}
+use Rattle.chip.specs.Answers.{GivenBack, fourNumbers}
+use Rattle.chip.specs.Calls.{givenEach}
 
 -- the calls
 unfoldable pub listing : List Call
@@ -22,14 +21,14 @@ listing =
     ∷ ask 5 0 0 0 0 0
     ∷ []
 
--- number, value, pass, written
-unfoldable pub printed : List Answer → List (List ℕ)
+-- each as number, value, pass, written
+unfoldable pub printed : List GivenBack → List (List ℕ)
 printed [] = []
-printed (a ∷ rest) = (numberOf a ∷ valueOf a ∷ passOf a ∷ writtenOf a ∷ []) ∷ printed rest
+printed (g ∷ rest) = fourNumbers g ∷ printed rest
 
 -- P = 2, zero memory and a fresh chip
 unfoldable pub Listing : Type 0
-Listing = printed (answersOf (freshOf 2) (replicate 10240 0) listing)
+Listing = printed (givenEach (freshOf 2) (replicate 10240 0) listing)
     ≡ (0 ∷ 0 ∷ 0 ∷ 0 ∷ [])
     ∷ (0 ∷ 0 ∷ 0 ∷ 0 ∷ [])
     ∷ (0 ∷ 0 ∷ 1 ∷ 1 ∷ [])

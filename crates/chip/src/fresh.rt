@@ -6,11 +6,15 @@ use super::Chip;
 use super::Control;
 use super::Refusal;
 ghost use mathlib.Core.Path.{_≡_};
+ghost use mathlib.Core.Bool.{true};
+ghost use Rattle.layout.specs.Memory.{pagesFit};
 ghost use Rattle.chip.specs.State.{freshOf};
-ghost use Rattle.chip.specs.Calls.{freshAnswered};
+ghost use Rattle.chip.specs.Answers.{givenBack};
+ghost use Rattle.chip.specs.Calls.{freshGiven, freshChip};
 
-// A fresh chip with so many pages to a bank, whether or not there may be so many.
+// A fresh chip with so many pages to a bank.
 pub fn fresh(pages: u16) -> Chip
+    requires { ⌜ pagesFit pages ≡ true ⌝ }
     ensures { λ r. ⌜ r ≡ freshOf pages ⌝ }
 {
     Chip {
@@ -29,7 +33,7 @@ pub fn fresh(pages: u16) -> Chip
 
 // A chip made fresh. Where there may not be so many pages to a bank, it is left as it is.
 pub fn make_fresh(chip: Chip, pages: u32) -> Answered
-    ensures { λ r. ⌜ r ≡ freshAnswered chip pages ⌝ }
+    ensures { λ r. ⌜ (givenBack (r .answer) ≡ freshGiven pages) × (r .chip ≡ freshChip chip pages) ⌝ }
 {
     if !layout::memory::pages_fit(pages) {
         return Answered {

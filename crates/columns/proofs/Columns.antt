@@ -1,41 +1,17 @@
--- The column table's answers have the paper's numbers and entries, and its bytes are those of its entries. Assumes nothing.
-use mathlib.Core.Path.{_≡_, refl, ap₂, _∙_}
-use mathlib.Core.Bool.{Bool, true, false, cond, not}
-use mathlib.Core.List.{[], _∷_}
+-- The column table's bytes are those of its entries, and an answer's number and entry say which it is. Assumes nothing.
+use mathlib.Core.Path.{_≡_, refl, sym, ap, ap₂, _∙_}
+use mathlib.Core.Bool.{cond}
 use Prim.Native.Nat.{ℕ, _+_, _*_, _/_, _%_, _^_, _<_}
 use native.Mathlib.Nat.{div-one, mod-eq-of-lt}
 use native.Mathlib.Omega.{arith}
-use lib.Dec.{eqb, ltb}
+use lib.Dec.{eqb}
 use lib.ListN.{getD}
-use Rattle.numbers.specs.Numbers.{first, whenDone}
-use Rattle.columns.specs.Columns.{table, columnEntry, columnNumber, columnGiven, columnFound, foundNumber, foundEntry, columnByte, columnBytes, columnsNumber, filledOf, filledNumber}
+use Rattle.columns.specs.Columns.{table, columnEntry, ColumnGiven, foundGiven, columnByte, columnBytes, filledNumber}
+use Rattle.columns.specs.declared.Column.{Column}
 use Rattle.columns.specs.declared.Column.the-variants.{Entry, OffScreen}
+use Rattle.columns.specs.declared.Filled.{Filled}
 use Rattle.columns.specs.declared.Filled.the-variants.{Whole, WrongLength}
 use Rattle.columns.proofs.Tables.{getD-table}
-
-pub found-number : (x : ℕ) → foundNumber (columnFound x) ≡ columnNumber x
-unfolding columnFound columnNumber first
-found-number x = go (ltb x 1280)
-  where
-    go : (on : Bool) → foundNumber (cond on (Entry (columnEntry x)) OffScreen) ≡ first ((8, not on) ∷ [])
-    go true = refl
-    go false = refl
-
-pub found-entry : (x : ℕ) → foundEntry (columnFound x) ≡ columnGiven x
-unfolding columnFound columnGiven columnNumber first
-found-entry x = go (ltb x 1280)
-  where
-    go : (on : Bool) → foundEntry (cond on (Entry (columnEntry x)) OffScreen) ≡ whenDone (first ((8, not on) ∷ [])) (columnEntry x) 0
-    go true = refl
-    go false = refl
-
-pub filled-number : (len : ℕ) → filledNumber (filledOf len) ≡ columnsNumber len
-unfolding filledOf columnsNumber first
-filled-number len = go (eqb len 2560)
-  where
-    go : (fits : Bool) → filledNumber (cond fits Whole WrongLength) ≡ first ((4, not fits) ∷ [])
-    go true = refl
-    go false = refl
 
 pub entry-lt : (x : ℕ) → x < 1280 → columnEntry x < 2048
 unfolding columnEntry
@@ -63,3 +39,28 @@ entry-read-back x h =
     let low : getD (table 2560 columnByte) (2 * x) 0 ≡ columnEntry x % 256 = getD-table 2560 columnByte (2 * x) (omega arith) ∙ lower-byte x in
     let high : getD (table 2560 columnByte) (2 * x + 1) 0 ≡ columnEntry x / 256 = getD-table 2560 columnByte (2 * x + 1) (omega arith) ∙ upper-byte x h in
     rw (low, high) (omega arith)
+
+-- ---- equal numbers and entries are equal answers
+
+found : ColumnGiven → Column
+found g = cond (eqb (g .number) 0) (Entry (g .entry)) OffScreen
+
+found-given : (a : Column) → found (foundGiven a) ≡ a
+unfolding found
+found-given (Entry entry) = refl
+found-given OffScreen = refl
+
+-- 01, Expected form: so the promise determines the answer
+pub column-determined : (a b : Column) → foundGiven a ≡ foundGiven b → a ≡ b
+column-determined a b e = sym (found-given a) ∙ ap found e ∙ found-given b
+
+filled : ℕ → Filled
+filled number = cond (eqb number 0) Whole WrongLength
+
+filled-given : (a : Filled) → filled (filledNumber a) ≡ a
+unfolding filled
+filled-given Whole = refl
+filled-given WrongLength = refl
+
+pub filled-determined : (a b : Filled) → filledNumber a ≡ filledNumber b → a ≡ b
+filled-determined a b e = sym (filled-given a) ∙ ap filled e ∙ filled-given b

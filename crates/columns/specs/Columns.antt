@@ -1,5 +1,5 @@
 -- The column table: 1,280 column numbers, and the same as bytes. Assumes nothing.
-use mathlib.Core.Bool.{cond, not}
+use mathlib.Core.Bool.{not}
 use mathlib.Core.List.{List, [], _∷_}
 use Prim.Native.Nat.{ℕ, zero, suc, _+_, _*_, _/_, _%_, _^_}
 use lib.Dec.{eqb, ltb}
@@ -28,21 +28,21 @@ unfoldable pub columnNumber : ℕ → ℕ
 columnNumber x = first ((8, not (ltb x 1280)) ∷ [])
 
 -- 01, Memory: and entry 0
-unfoldable pub columnGiven : ℕ → ℕ
-columnGiven x = whenDone (columnNumber x) (columnEntry x) 0
+unfoldable pub entryGiven : ℕ → ℕ
+entryGiven x = whenDone (columnNumber x) (columnEntry x) 0
 
--- ---- 01, Expected form: the answer is an enum, whose number is columnNumber and whose entry is columnGiven: found-number and found-entry of proofs/Entries.antt
+-- a number, and an entry
+pub record ColumnGiven : Type 0 where
+  pub number : ℕ
+  pub entry : ℕ
 
-unfoldable pub columnFound : ℕ → Column
-columnFound x = cond (ltb x 1280) (Entry (columnEntry x)) OffScreen
+unfoldable pub columnGiven : ℕ → ColumnGiven
+columnGiven x = record { number = columnNumber x; entry = entryGiven x }
 
-abbrev pub foundNumber : Column → ℕ
-foundNumber (Entry entry) = 0
-foundNumber OffScreen = 8
-
-abbrev pub foundEntry : Column → ℕ
-foundEntry (Entry entry) = entry
-foundEntry OffScreen = 0
+-- 01, Expected form: an enum, and this paper's number and values for each of its cases
+abbrev pub foundGiven : Column → ColumnGiven
+foundGiven (Entry entry) = record { number = 0; entry = entry }
+foundGiven OffScreen = record { number = 8; entry = 0 }
 
 -- ---- 01, Memory: the C drawing program indexes columns: the table in its own buffer, 1,280 entries of 16 bits, the lower byte first
 
@@ -61,9 +61,7 @@ columnsNumber len = first ((4, not (eqb len 2560)) ∷ [])
 unfoldable pub columnsLeft : List ℕ → List ℕ
 columnsLeft buffer = whenDone (columnsNumber (length buffer)) columnBytes buffer
 
-unfoldable pub filledOf : ℕ → Filled
-filledOf len = cond (eqb len 2560) Whole WrongLength
-
+-- 01, Expected form: an enum, and this paper's number for each of its cases
 abbrev pub filledNumber : Filled → ℕ
 filledNumber Whole = 0
 filledNumber WrongLength = 4

@@ -2,7 +2,7 @@
 pub mod entries; // entries.rt: what is read from the table
 mod table; // table.rt: the numbers of the table
 
-// What asking the column table for an x gives. Its number and its entry are foundNumber and foundEntry of specs/Columns.antt.
+// What asking the column table for an x gives. Its number and its entry are foundGiven of specs/Columns.antt.
 pub enum Column {
     Entry(u16),
     OffScreen,

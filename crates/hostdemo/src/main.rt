@@ -6,7 +6,8 @@ use chip::Call;
 use chip::Chip;
 use chip::Control;
 ghost use mathlib.Core.Path.{_≡_};
-ghost use Rattle.chip.specs.Calls.{answeredOf, memoryOf, freshAnswered};
+ghost use Rattle.chip.specs.Answers.{givenBack};
+ghost use Rattle.chip.specs.Calls.{callGiven, chipOf, memoryOf, freshGiven, freshChip};
 
 // Says what a call answered. The answer is taken apart before its value is read.
 fn tell(name: &[u8], answer: Answer) {
@@ -29,7 +30,7 @@ fn tell(name: &[u8], answer: Answer) {
 
 // Lends a chip to the call that makes it fresh. This function and the next have a reference to a struct, and so are proved by a walk by hand.
 fn freshened(chip: Chip, pages: u32) -> Answered
-    ensures { λ r. ⌜ r ≡ freshAnswered chip pages ⌝ }
+    ensures { λ r. ⌜ (givenBack (r .answer) ≡ freshGiven pages) × (r .chip ≡ freshChip chip pages) ⌝ }
 {
     let mut held = chip;
     let answer = hosts::lent::fresh_on(&mut held, pages);
@@ -41,7 +42,7 @@ fn freshened(chip: Chip, pages: u32) -> Answered
 
 // Lends a chip to any other call.
 fn advanced(chip: Chip, memory: &mut [u8], x: Call) -> Answered
-    ensures { λ r. ⌜ (r ≡ answeredOf chip (now (memory .entry)) x) × (now (memory .exit) ≡ memoryOf chip (now (memory .entry)) x) ⌝ }
+    ensures { λ r. ⌜ (givenBack (r .answer) ≡ callGiven chip (now (memory .entry)) x) × (r .chip ≡ chipOf chip (now (memory .entry)) x) × (now (memory .exit) ≡ memoryOf chip (now (memory .entry)) x) ⌝ }
 {
     let mut held = chip;
     let answer = hosts::lent::call_on(&mut held, memory, x);
@@ -53,7 +54,7 @@ fn advanced(chip: Chip, memory: &mut [u8], x: Call) -> Answered
 
 // Makes a call, says what it answered, and gives back the chip that it leaves.
 fn step(name: &[u8], chip: Chip, memory: &mut [u8], x: Call) -> Chip
-    ensures { λ r. ⌜ (r ≡ answeredOf chip (now (memory .entry)) x .chip) × (now (memory .exit) ≡ memoryOf chip (now (memory .entry)) x) ⌝ }
+    ensures { λ r. ⌜ (r ≡ chipOf chip (now (memory .entry)) x) × (now (memory .exit) ≡ memoryOf chip (now (memory .entry)) x) ⌝ }
 {
     let done = advanced(chip, memory, x);
     let answer = done.answer;
@@ -121,10 +122,26 @@ fn be_refused(chip: Chip, memory: &mut [u8]) {
     step(b"access page", chip, memory, call(1, 0, 0, 0, 0, 0));
 }
 
-// A chip of no pages is not well formed, and is made fresh all the same.
+// A chip of no pages, which is not well formed.
+fn ill_formed() -> Chip {
+    Chip {
+        control: Control {
+            pages: 0,
+            banks: [0; 4],
+            registers: [0; 7],
+            picking: false,
+            hit: false,
+            counter: 0,
+            tags: [0; 8],
+        },
+        pixels: [0; 256],
+    }
+}
+
+// A chip that is not well formed is made fresh all the same.
 fn main() {
     let mut memory = [0u8; 5120];
-    let made = freshened(chip::fresh::fresh(0), 1);
+    let made = freshened(ill_formed(), 1);
     let answer = made.answer;
     tell(b"fresh chip", answer);
     let fresh = made.chip;

@@ -3,11 +3,12 @@ use chip::Answer;
 use chip::Call;
 use chip::Chip;
 ghost use mathlib.Core.Path.{_≡_};
-ghost use Rattle.chip.specs.Calls.{answeredOf, memoryOf, freshAnswered};
+ghost use Rattle.chip.specs.Answers.{givenBack};
+ghost use Rattle.chip.specs.Calls.{callGiven, chipOf, memoryOf, freshGiven, freshChip};
 
 // Any call.
 pub fn call_on(chip: &mut Chip, memory: &mut [u8], x: Call) -> Answer
-    ensures { λ r. ⌜ (r ≡ answeredOf (now (chip .entry)) (now (memory .entry)) x .answer) × (now (chip .exit) ≡ answeredOf (now (chip .entry)) (now (memory .entry)) x .chip) × (now (memory .exit) ≡ memoryOf (now (chip .entry)) (now (memory .entry)) x) ⌝ }
+    ensures { λ r. ⌜ (givenBack r ≡ callGiven (now (chip .entry)) (now (memory .entry)) x) × (now (chip .exit) ≡ chipOf (now (chip .entry)) (now (memory .entry)) x) × (now (memory .exit) ≡ memoryOf (now (chip .entry)) (now (memory .entry)) x) ⌝ }
 {
     let done = calls::value::perform(*chip, memory, x);
     *chip = done.chip;
@@ -16,7 +17,7 @@ pub fn call_on(chip: &mut Chip, memory: &mut [u8], x: Call) -> Answer
 
 // Making the chip fresh. It need not be well formed before.
 pub fn fresh_on(chip: &mut Chip, pages: u32) -> Answer
-    ensures { λ r. ⌜ (r ≡ freshAnswered (now (chip .entry)) pages .answer) × (now (chip .exit) ≡ freshAnswered (now (chip .entry)) pages .chip) ⌝ }
+    ensures { λ r. ⌜ (givenBack r ≡ freshGiven pages) × (now (chip .exit) ≡ freshChip (now (chip .entry)) pages) ⌝ }
 {
     let made = chip::fresh::make_fresh(*chip, pages);
     *chip = made.chip;

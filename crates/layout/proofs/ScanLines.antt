@@ -1,17 +1,21 @@
 -- A scan line that is given lies in memory, and one that is refused is empty. Assumes nothing.
 use mathlib.Core.Path.{_≡_}
 use mathlib.Core.Logic.{_≢_}
-use mathlib.Core.Bool.{true, not, _&&_}
-use mathlib.Core.List.{List, [], _∷_}
+use mathlib.Core.Bool.{true, _&&_}
+use mathlib.Core.List.{List, []}
 use Prim.Native.Nat.{ℕ, _+_, _*_, _<_, _≤_}
 use native.Mathlib.Omega.{arith}
-use lib.Dec.{eqb, leb, ltb}
+use lib.Dec.{leb, ltb}
 use lib.ListN.{length, length-take, length-drop}
 use borrow.Author.Tests.{ltb-true, leb-true, eqb-true, not-false}
-use Rattle.numbers.specs.Numbers.{first}
-use Rattle.layout.specs.Memory.{pagesFit, size, inBank, place, onLine, lineStart, scanLine, lineNumber, lineGiven}
+use Rattle.layout.specs.Memory.{pagesFit, size, inBank, place, onLine, lineStart, scanLine, lineTests, lineNumber, lineGiven}
 use Rattle.numbers.proofs.Tests.{none-applies, and-left, and-right, given-done, given-refused}
 use Rattle.layout.proofs.Places.{place-lt}
+
+-- P is at most 257
+pub pages-most : (P : ℕ) → pagesFit P ≡ true → P ≤ 257
+unfolding pagesFit
+pages-most P e = leb-true P 257 (and-right (leb 1 P) (leb P 257) e)
 
 pub on-line-lt : (line column : ℕ) → line < 16 → column < 80 → onLine line column < 1280
 unfolding onLine
@@ -25,33 +29,24 @@ line-fits P bank page line hb hp hl = omega (arith, place-lt P bank page (line *
 module _ (P len bank page line : ℕ) where
   -- what a scan line that is given has passed
   pub record Passed : Type 0 where
-    pub pages : P ≤ 257
     pub long : len ≡ size P
     pub bank-lt : bank < 4
     pub page-lt : page < P
     pub line-lt : line < 16
 
   pub passed : lineNumber P len bank page line ≡ 0 → Passed
-  unfolding lineNumber pagesFit
+  unfolding lineNumber lineTests
   passed e =
-      let one = none-applies 0 _ _ e in
-      let two = none-applies 1 _ _ (one .1) in
+      let two = none-applies 1 _ _ e in
       let four = none-applies 3 _ _ (two .1) in
       let inside = not-false _ (four .0) in
       let first-two = and-left (ltb bank 4 && ltb page P) (ltb line 16) inside in
       record {
-        pages = leb-true P 257 (and-right (leb 1 P) (leb P 257) (not-false _ (one .0)));
         long = eqb-true len (size P) (not-false _ (two .0));
         bank-lt = ltb-true bank 4 (and-left (ltb bank 4) (ltb page P) first-two);
         page-lt = ltb-true page P (and-right (ltb bank 4) (ltb page P) first-two);
         line-lt = ltb-true line 16 (and-right (ltb bank 4 && ltb page P) (ltb line 16) inside);
       }
-
-  -- where the state is well formed, so P is 1 to 257, the numbers are 2 and 4
-  pub line-number-formed : pagesFit P ≡ true
-      → lineNumber P len bank page line ≡ first ((2, not (eqb len (size P))) ∷ (4, not (ltb bank 4 && ltb page P && ltb line 16)) ∷ [])
-  unfolding lineNumber first
-  line-number-formed e = rw e
 
 module _ (P bank page line : ℕ) (memory : List ℕ) where
   -- its 80 bytes are in the lent memory

@@ -3,7 +3,7 @@ use super::Point;
 use super::Pointed;
 use super::memory::pages_fit;
 ghost use mathlib.Core.Path.{_≡_};
-ghost use Rattle.layout.specs.Screen.{pointBank, pointPage, onScreen, pointAt, pointedOf};
+ghost use Rattle.layout.specs.Screen.{pointBank, pointPage, onScreen, pointAt, pointGiven, pointedGiven};
 
 pub const WIDTH: u32 = 1280;
 
@@ -44,7 +44,7 @@ fn place_of(x: u32, y: u32) -> Point
 
 // The screen point (x, y), in a memory of so many pages to a bank. P is tested first.
 pub fn point(pages: u32, x: u32, y: u32) -> Pointed
-    ensures { λ r. ⌜ r ≡ pointedOf pages x y ⌝ }
+    ensures { λ r. ⌜ pointedGiven r ≡ pointGiven pages x y ⌝ }
 {
     if !pages_fit(pages) {
         return Pointed::PagesOutside;

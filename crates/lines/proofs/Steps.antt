@@ -8,7 +8,7 @@ use borrow.Author.Tests.{lt-ltb, le-ltb, le-leb, lt-leb, eq-eqb, ne-eqb, ltb-tru
 use Rattle.numbers.proofs.Tests.{and-left, and-right}
 use Rattle.lines.specs.declared.reader.Reader.{Reader}
 use Rattle.lines.specs.Lines.{isDigit}
-use Rattle.lines.specs.Reading.{spoilt, numberMore, digitMore, afterSpace, afterDigit, afterByte}
+use Rattle.lines.specs.ByByte.{spoilt, numberMore, digitMore, afterSpace, afterDigit, afterByte}
 
 -- a test that fails makes the whole fail
 both-fail : (a b : Bool) → b ≡ false → (a && b) ≡ false

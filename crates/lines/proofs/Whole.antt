@@ -1,5 +1,5 @@
--- Reading a line a byte at a time gives what specs/Lines says of the whole line. Assumes nothing.
-use mathlib.Core.Path.{_≡_, refl, ap, _∙_}
+-- Reading a line a byte at a time gives what specs/Lines says of the whole line; its number and call say which answer it is. Assumes nothing.
+use mathlib.Core.Path.{_≡_, refl, sym, ap, _∙_}
 use mathlib.Core.Bool.{Bool, true, false, cond, not, _&&_, and-false, and-true, and-assoc}
 use mathlib.Core.List.{List, [], _∷_, _++_}
 use Prim.Native.Nat.{ℕ, suc, _+_, _-_, _*_, _^_, _≤_, _<_}
@@ -8,8 +8,7 @@ use native.Mathlib.Nat.{add-zero, zero-add}
 use native.Mathlib.Omega.{arith}
 use native.Mathlib.Numerals.{add-one}
 use lib.Dec.{eqb, leb, ltb, eqb·suc-suc}
-use lib.ListN.{length, getD, drop, drop-of-length-le}
-use lib.Seq.{drop-cons}
+use lib.ListN.{length, getD}
 use borrow.Author.Tests.{lt-ltb, le-ltb, le-leb, lt-leb, ne-eqb, eqb-true}
 use Rattle.numbers.specs.Numbers.{first, whenDone}
 use Rattle.chip.specs.declared.Call.{Call}
@@ -17,8 +16,8 @@ use Rattle.chip.specs.Operations.{ask}
 use Rattle.lines.specs.declared.reader.Reader.{Reader}
 use Rattle.lines.specs.declared.reader.Parsed.{Parsed}
 use Rattle.lines.specs.declared.reader.Parsed.the-variants.{Read, NotALine}
-use Rattle.lines.specs.Lines.{onto, split, isDigit, allDigits, decimal, isNumber, allNumbers, lineNumber, lineCall, parsedOf}
-use Rattle.lines.specs.Reading.{started, spoilt, pushed, afterSpace, afterDigit, afterByte, afterBytes, ended}
+use Rattle.lines.specs.Lines.{onto, split, isDigit, allDigits, decimal, isNumber, allNumbers, textNumber, lineCall, TextGiven, isCall, noCall, textGiven, parsedGiven}
+use Rattle.lines.specs.ByByte.{started, spoilt, pushed, afterSpace, afterDigit, afterByte, afterBytes, ended}
 use Rattle.lines.proofs.Steps.{space-too-soon, space-too-late, space-ends, digit-too-many, digit-too-much, digit-taken, byte-cases}
 
 -- ---- a line that goes on where a reader stands: its first piece goes on with the number that is being read
@@ -35,10 +34,10 @@ abbrev pushedFrom : Call → ℕ → List (List ℕ) → Call
 pushedFrom call value [] = call
 pushedFrom call value (piece ∷ pieces) = pushedFrom (pushed call (decimal value piece)) 0 pieces
 
-abbrev continued : Reader → List (List ℕ) → Parsed
+abbrev continued : Reader → List (List ℕ) → TextGiven
 continued r pieces = cond (r .sound && (eqb (r .whole + length pieces) 6 && numbersFrom (r .digits) (r .value) pieces))
-    (Read (pushedFrom (r .call) (r .value) pieces))
-    NotALine
+    (isCall (pushedFrom (r .call) (r .value) pieces))
+    noCall
 
 -- digits only make a number larger
 grows : (value : ℕ) (piece : List ℕ) → value ≤ decimal value piece
@@ -102,15 +101,6 @@ unfolding afterBytes
 bytes-append r [] b = refl
 bytes-append r (x ∷ a) b = bytes-append (afterByte r x) a b
 
--- a turn of a loop over the bytes of a list, and its end
-pub one-more : (r : Reader) (l : List ℕ) (i : ℕ) → i < length l → afterBytes r (drop i l) ≡ afterBytes (afterByte r (getD l i 0)) (drop (i + 1) l)
-unfolding afterBytes
-one-more r l i h = rw (drop-cons l i 0 h, add-one)
-
-pub none-left : (r : Reader) (l : List ℕ) (i : ℕ) → length l ≤ i → afterBytes r (drop i l) ≡ r
-unfolding afterBytes
-none-left r l i h = rw (drop-of-length-le l h)
-
 -- a line has at least one piece
 pub some-piece : (mark : ℕ) (line : List ℕ) → 1 ≤ length (split mark line)
 unfolding split
@@ -166,16 +156,30 @@ all-numbers [] h = absurd (omega arith)
 all-numbers (p ∷ ps) h = simp zero-add
 
 -- 01, The small program: a line is six numbers exactly when the bytes are such a line
-pub read-whole : (line : List ℕ) → ended (afterBytes started line) ≡ parsedOf line
-unfolding parsedOf lineNumber lineCall first
+pub read-whole : (line : List ℕ) → ended (afterBytes started line) ≡ textGiven line
+unfolding textGiven textNumber lineCall first
 read-whole line = read-from line started (omega arith) ∙ rw (zero-add, all-numbers (split 32 line) (some-piece 32 line)) (go (eqb (length (split 32 line)) 6) (allNumbers (split 32 line)) refl)
   where
     call : Call
     call = lineCall line
 
     go : (six numbers : Bool) → eqb (length (split 32 line)) 6 ≡ six
-        → cond (six && numbers) (Read (pushedFrom (ask 0 0 0 0 0 0) 0 (split 32 line))) NotALine
-        ≡ whenDone (cond (not (six && numbers)) 9 0) (Read call) NotALine
+        → cond (six && numbers) (isCall (pushedFrom (ask 0 0 0 0 0 0) 0 (split 32 line))) noCall
+        ≡ whenDone (cond (not (six && numbers)) 9 0) (isCall call) noCall
     go false numbers e = refl
     go true false e = refl
-    go true true e = ap Read (in-places (split 32 line) (eqb-true (length (split 32 line)) 6 e))
+    go true true e = ap isCall (in-places (split 32 line) (eqb-true (length (split 32 line)) 6 e))
+
+-- ---- equal numbers and calls are equal answers
+
+from : TextGiven → Parsed
+from g = cond (eqb (g .number) 0) (Read (g .call)) NotALine
+
+from-given : (a : Parsed) → from (parsedGiven a) ≡ a
+unfolding from
+from-given (Read call) = refl
+from-given NotALine = refl
+
+-- 01, Expected form: so the promise determines the answer
+pub parsed-determined : (a b : Parsed) → parsedGiven a ≡ parsedGiven b → a ≡ b
+parsed-determined a b e = sym (from-given a) ∙ ap from e ∙ from-given b

@@ -3,11 +3,11 @@ ghost use mathlib.Core.Path.{_≡_};
 ghost use mathlib.Core.List.{[], _∷_};
 ghost use Prim.Native.Nat.{_+_, _≤_, _<_};
 ghost use lib.ListN.{length};
-ghost use Rattle.lines.specs.Printing.{digitsOf, printedNumber, printedLine, header, Stored};
+ghost use Rattle.lines.specs.Printing.{digitsOf, printedNumber, printedLine, heading, Stored};
 
 // The line that comes before all others.
 pub fn heading() -> [u8; 26]
-    ensures { λ r. ⌜ r ≡ header ⌝ }
+    ensures { λ r. ⌜ r ≡ heading ⌝ }
 {
     *b"number value pass written\n"
 }

@@ -2,10 +2,10 @@
 use chip::Call;
 ghost use mathlib.Core.Path.{_≡_};
 ghost use Prim.Native.Nat.{_≤_};
-ghost use Rattle.lines.specs.Lines.{parsedOf};
-ghost use Rattle.lines.specs.Reading.{holdingNone, started, spoilt, pushed, afterSpace, afterDigit, afterByte, ended};
+ghost use Rattle.lines.specs.Lines.{parsedGiven};
+ghost use Rattle.lines.specs.ByByte.{holdingNone, started, spoilt, pushed, afterSpace, afterDigit, afterByte, ended};
 
-// What a line is: six numbers, or number 9.
+// What a line is: six numbers, or number 9. Its number and its call are parsedGiven of specs/Lines.antt.
 pub enum Parsed {
     Read(Call),
     NotALine,
@@ -138,7 +138,7 @@ pub fn step(reader: Reader, byte: u8) -> Reader
 
 // The end of a line: five numbers are whole, and the sixth has a digit.
 pub fn finish(reader: Reader) -> Parsed
-    ensures { λ r. ⌜ r ≡ ended reader ⌝ }
+    ensures { λ r. ⌜ parsedGiven r ≡ ended reader ⌝ }
 {
     let complete = reader.sound & (reader.whole == 5) & (0 < reader.digits);
     if !complete {
@@ -146,17 +146,4 @@ pub fn finish(reader: Reader) -> Parsed
     }
     let call = reader.call;
     Parsed::Read(push(call, reader.value))
-}
-
-// A line that is there whole.
-pub fn parse(line: &[u8]) -> Parsed
-    ensures { λ r. ⌜ r ≡ parsedOf (now (line .entry)) ⌝ }
-{
-    let mut reader = start();
-    let mut i = 0;
-    while i < line.len() {
-        reader = step(reader, line[i]);
-        i += 1;
-    }
-    finish(reader)
 }

@@ -10,21 +10,17 @@ use Rattle.layout.specs.Memory.{size}
 use Rattle.numbers.proofs.Tests.{and-left, test-holds, test-fails, equal, unequal}
 use Rattle.chip.specs.declared.Call.{Call}
 use Rattle.chip.specs.declared.Control.{Control}
-use Rattle.chip.specs.declared.Answer.the-variants.{Refused, Done}
-use Rattle.chip.specs.declared.Answer.{Answer}
-use Rattle.chip.specs.declared.Refusal.{Refusal}
-use Rattle.chip.specs.declared.Refusal.the-variants.{OperandOutside, BankOpen, BankClosed}
 use Rattle.chip.specs.State.{slots, closed, openPage, isClosed}
 use Rattle.chip.specs.Operations.{Operation, row, operation, allZero, inRange}
 use Rattle.chip.specs.Changes.{ticked}
 use Rattle.chip.specs.Effects.{Effect, reading, slotByte, effect, pixelsAfter, memoryAfter, still, giving}
-use Rattle.chip.specs.Answers.{doneAnswer, refusalOf}
+use Rattle.chip.specs.Answers.{GivenBack, doneWith, numbered, effectGiven}
 use Rattle.chip.specs.Refusals.{asks, operandsFit, callTests}
 use Rattle.chip.specs.Calls.{readIn}
 use Rattle.chip.proofs.Accepted.{page-range, block-range}
 use Rattle.block.specs.Block.{encode, decodeControl, pixelsIn, tickedIn, wellFormedBlock}
 use Rattle.block.proofs.Puts.{Stores, ticks}
-use Rattle.own.specs.Own.{ownNumber, ownAnswer, ownBlock, ownMemory}
+use Rattle.own.specs.Own.{ownNumber, ownGiven, ownBlock, ownMemory}
 use Rattle.own.proofs.WellFormed.{pages-in, page-below}
 
 -- the tests, of an operation and the operands that its line does not list
@@ -58,9 +54,9 @@ pub bank-open : (c : Control) (bank : ℕ) → eqb (openPage (c .banks) bank) 65
 unfolding first isClosed closed
 bank-open c bank e = rw e
 
--- refused: the answer says why, and nothing changes
-abbrev pub Unmoved : List ℕ → Call → Refusal → Type 0
-Unmoved s x why = (Refused why ≡ ownAnswer s x) × ((memory : List ℕ) → s ≡ ownBlock s memory x) × ((memory : List ℕ) → memory ≡ ownMemory s memory x)
+-- refused with a number: it is given, and nothing changes
+abbrev pub Unmoved : List ℕ → Call → ℕ → Type 0
+Unmoved s x k = (numbered k ≡ ownGiven s x) × ((memory : List ℕ) → s ≡ ownBlock s memory x) × ((memory : List ℕ) → memory ≡ ownMemory s memory x)
 
 module _ (s : List ℕ) (x : Call) (o : Operation) (unused : List ℕ) (r : row x ≡ (o, unused)) where
   -- what the operation does, if it is done
@@ -75,15 +71,15 @@ module _ (s : List ℕ) (x : Call) (o : Operation) (unused : List ℕ) (r : row 
   unfolding ownNumber callTests operandsFit tests
   own-number = rw (operation-is, r)
 
-  pub refused : {k : ℕ} → tests (decodeControl s) o unused ≡ suc k → Unmoved s x (refusalOf (suc k))
-  unfolding ownAnswer ownBlock ownMemory
+  pub refused : {k : ℕ} → tests (decodeControl s) o unused ≡ suc k → Unmoved s x (suc k)
+  unfolding ownGiven ownBlock ownMemory
   refused e = (rw (own-number, e), λ memory. rw (own-number, e), λ memory. rw (own-number, e))
 
   -- done: what its operation does
   module _ (e : tests (decodeControl s) o unused ≡ 0) where
-    pub done-answer : doneAnswer does ≡ ownAnswer s x
-    unfolding ownAnswer readIn
-    done-answer = rw (own-number, e, operation-is)
+    pub done-given : effectGiven does ≡ ownGiven s x
+    unfolding ownGiven readIn
+    done-given = rw (own-number, e, operation-is)
 
     pub done-block : (memory : List ℕ) → encode (record {
       control = ticked (does .control);
@@ -97,12 +93,12 @@ module _ (s : List ℕ) (x : Call) (o : Operation) (unused : List ℕ) (r : row 
     done-memory memory = rw (own-number, e, operation-is)
 
   -- no number applies, the block with its field put stores what the operation leaves, and `done` ends the call
-  pub put-done : {c : Control} {v : ℕ} {put after : List ℕ} {answer : Answer} → tests (decodeControl s) o unused ≡ 0
-      → Stores put c (pixelsIn s) → giving v c still ≡ does → (answer ≡ Done v false false) × (after ≡ tickedIn put)
-      → (answer ≡ ownAnswer s x) × ((memory : List ℕ) → after ≡ ownBlock s memory x)
+  pub put-done : {c : Control} {v : ℕ} {put after : List ℕ} {given : GivenBack} → tests (decodeControl s) o unused ≡ 0
+      → Stores put c (pixelsIn s) → giving v c still ≡ does → (given ≡ doneWith v 0 0) × (after ≡ tickedIn put)
+      → (given ≡ ownGiven s x) × ((memory : List ℕ) → after ≡ ownBlock s memory x)
   unfolding pixelsAfter
   put-done none held leaves ends = (
-    ends .0 ∙ ap doneAnswer leaves ∙ done-answer none,
+    ends .0 ∙ ap effectGiven leaves ∙ done-given none,
     λ memory. ends .1 ∙ ticks held
         ∙ ap (λ (e : Effect). encode (record { control = ticked (e .control); pixels = pixelsAfter (decodeControl s) (pixelsIn s) memory (e .move) })) leaves
         ∙ done-block none memory,
@@ -111,20 +107,18 @@ module _ (s : List ℕ) (x : Call) (o : Operation) (unused : List ℕ) (r : row 
 module _ (s : List ℕ) (x : Call) {o : Operation} {unused : List ℕ} (r : row x ≡ (o, unused)) where
   -- `fits` is what the code's test of the operands answers
   module _ {fits : Bool} (told : fits ≡ (inRange slots (decodeControl s .pages) o && allZero unused)) where
-    pub operand-outside : not fits ≡ true → Unmoved s x OperandOutside
-    unfolding refusalOf
+    pub operand-outside : not fits ≡ true → Unmoved s x 4
     operand-outside taken = refused s x o unused r (outside (decodeControl s) o unused (test-fails told taken))
 
     -- the same, of a call that has no memory
-    pub operands-refused : not fits ≡ true → (Refused OperandOutside ≡ ownAnswer s x) × ((memory : List ℕ) → s ≡ ownBlock s memory x)
+    pub operands-refused : not fits ≡ true → (numbered 4 ≡ ownGiven s x) × ((memory : List ℕ) → s ≡ ownBlock s memory x)
     operands-refused taken = let left = operand-outside taken in (left .0, left .1)
 
     -- `page` is what the code reads of the bank
     module _ (left : not fits ≡ false) {page : ℕ} (read : page ≡ openPage (decodeControl s .banks) (x .a)) where
       -- an operation on an open bank: 3 to 6
       module _ (asked : asks (decodeControl s) o ≡ (7, isClosed (decodeControl s .banks) (x .a)) ∷ []) where
-        pub closed-refused : page ≡ 65535 → Unmoved s x BankClosed
-        unfolding refusalOf
+        pub closed-refused : page ≡ 65535 → Unmoved s x 7
         closed-refused e = refused s x o unused r (by-asks (decodeControl s) o unused (test-holds told left) (ap first asked ∙ bank-shut (decodeControl s) (x .a) (equal read e)))
 
         pub open-passes : (page ≡ 65535 → ⊥) → tests (decodeControl s) o unused ≡ 0
@@ -132,8 +126,7 @@ module _ (s : List ℕ) (x : Call) {o : Operation} {unused : List ℕ} (r : row 
 
       -- one on a closed bank: 1
       module _ (asked : asks (decodeControl s) o ≡ (6, not (isClosed (decodeControl s .banks) (x .a))) ∷ []) where
-        pub open-refused : (page ≡ 65535 → ⊥) → Unmoved s x BankOpen
-        unfolding refusalOf
+        pub open-refused : (page ≡ 65535 → ⊥) → Unmoved s x 6
         open-refused f = refused s x o unused r (by-asks (decodeControl s) o unused (test-holds told left) (ap first asked ∙ access-open (decodeControl s) (x .a) (unequal read f)))
 
         pub closed-passes : page ≡ 65535 → tests (decodeControl s) o unused ≡ 0
@@ -141,8 +134,8 @@ module _ (s : List ℕ) (x : Call) {o : Operation} {unused : List ℕ} (r : row 
 
   -- done: the answer, the block with the counter gone on, and the memory are what the operation does
   module _ (none : tests (decodeControl s) o unused ≡ 0) where
-    pub ends-answer : {a : Answer} → a ≡ doneAnswer (does s x o unused r) → a ≡ ownAnswer s x
-    ends-answer e = e ∙ done-answer s x o unused r none
+    pub ends-given : {g : GivenBack} → g ≡ effectGiven (does s x o unused r) → g ≡ ownGiven s x
+    ends-given e = e ∙ done-given s x o unused r none
 
     pub ends-block : (memory : List ℕ) {left t : List ℕ} → left ≡ tickedIn t
         → Stores t (does s x o unused r .control) (pixelsAfter (decodeControl s) (pixelsIn s) memory (does s x o unused r .move)) → left ≡ ownBlock s memory x

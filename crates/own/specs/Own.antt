@@ -1,5 +1,5 @@
 -- A call on a well formed block and a memory of its size, for an operation that is known: what its own line of document 01's tables says of it.
--- (What comes before, 01's numbers 1 to 3, is in `blockAnswer` and its like: crate block, OnBlock.) Assumes nothing.
+-- (What comes before, 01's numbers 1 to 3, is in `blockGiven` and its like: crate block, OnBlock.) Assumes nothing.
 use mathlib.Core.Bool.{Bool, cond, not, _&&_}
 use mathlib.Core.List.{List}
 use Prim.Native.Nat.{ℕ, _+_, _*_, _%_, _^_}
@@ -10,12 +10,10 @@ use Rattle.pixel.specs.declared.Write.{Write}
 use Rattle.pixel.specs.declared.Outcome.{Outcome}
 use Rattle.bank.specs.Work.{inSlot}
 use Rattle.chip.specs.declared.Call.{Call}
-use Rattle.chip.specs.declared.Answer.{Answer}
-use Rattle.chip.specs.declared.Answer.the-variants.{Refused}
 use Rattle.chip.specs.State.{slots}
 use Rattle.chip.specs.Changes.{ticked, tagOf}
 use Rattle.chip.specs.Effects.{Effect, pixelsAfter, memoryAfter}
-use Rattle.chip.specs.Answers.{doneAnswer, refusalOf}
+use Rattle.chip.specs.Answers.{GivenBack, numbered, effectGiven}
 use Rattle.chip.specs.Refusals.{callTests}
 use Rattle.chip.specs.Calls.{effectIn}
 use Rattle.block.specs.Block.{flagsAt, pixelsAt, encode, decodeControl, pixelsIn, putTag, tickedIn}
@@ -28,8 +26,8 @@ ownNumber s x = first (callTests slots (decodeControl s) x)
 abbrev pub ownEffect : List ℕ → Call → Effect
 ownEffect s x = effectIn slots (decodeControl s) (pixelsIn s) x
 
-unfoldable pub ownAnswer : List ℕ → Call → Answer
-ownAnswer s x = whenDone (ownNumber s x) (doneAnswer (ownEffect s x)) (Refused (refusalOf (ownNumber s x)))
+unfoldable pub ownGiven : List ℕ → Call → GivenBack
+ownGiven s x = whenDone (ownNumber s x) (effectGiven (ownEffect s x)) (numbered (ownNumber s x))
 
 -- the block after it, and the memory
 unfoldable pub ownBlock : List ℕ → List ℕ → Call → List ℕ

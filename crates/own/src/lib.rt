@@ -2,7 +2,7 @@
 use block::fields;
 use chip::Answer;
 ghost use mathlib.Core.Path.{_≡_};
-ghost use mathlib.Core.Bool.{false};
+ghost use Rattle.chip.specs.Answers.{doneWith, givenBack};
 ghost use Rattle.block.specs.Block.{IsBlock, tickedIn};
 
 pub mod operands; // operands.rt: document 01's ranges
@@ -10,7 +10,7 @@ pub mod operands; // operands.rt: document 01's ranges
 // The answer of a call that is done and neither passes nor writes; the counter goes on.
 pub fn done(s: &mut [u8], value: u32) -> Answer
     requires { ⌜ IsBlock (now s) ⌝ }
-    ensures { λ r. ⌜ (r ≡ Answer.Done value false false) × (now (s .exit) ≡ tickedIn (now (s .entry))) ⌝ }
+    ensures { λ r. ⌜ (givenBack r ≡ doneWith value 0 0) × (now (s .exit) ≡ tickedIn (now (s .entry))) ⌝ }
 {
     fields::tick(s);
     Answer::Done {

@@ -19,8 +19,9 @@ ghost use Rattle.bank.specs.Work.{inSlot, backMask, writtenBack};
 ghost use Rattle.chip.specs.State.{openPage};
 ghost use Rattle.chip.specs.Changes.{tagOf};
 ghost use Rattle.chip.specs.Effects.{slotByte};
+ghost use Rattle.chip.specs.Answers.{givenBack};
 ghost use Rattle.block.specs.Block.{IsBlock, pixelsAt, decodeControl, pixelsIn, wellFormedBlock};
-ghost use Rattle.own.specs.Own.{ownAnswer, ownBlock, ownMemory};
+ghost use Rattle.own.specs.Own.{ownGiven, ownBlock, ownMemory};
 
 // The block that a call names, into its slot where the slot lies.
 fn load_slot(s: &mut [u8], memory: &[u8], x: Call)
@@ -64,7 +65,7 @@ fn write_slot(s: &[u8], memory: &mut [u8], x: Call)
 
 pub fn read_block(s: &mut [u8], memory: &[u8], x: Call) -> Answer
     requires { ⌜ IsBlock (now s) × (wellFormedBlock (now s) ≡ true) × (length (now memory) ≡ size (decodeControl (now s) .pages)) × (x .op ≡ 4) ⌝ }
-    ensures { λ r. ⌜ (r ≡ ownAnswer (now (s .entry)) x) × (now (s .exit) ≡ ownBlock (now (s .entry)) (now (memory .entry)) x) ⌝ }
+    ensures { λ r. ⌜ (givenBack r ≡ ownGiven (now (s .entry)) x) × (now (s .exit) ≡ ownBlock (now (s .entry)) (now (memory .entry)) x) ⌝ }
 {
     if !operands::block_fits(x) {
         return Answer::Refused(Refusal::OperandOutside);
@@ -79,7 +80,7 @@ pub fn read_block(s: &mut [u8], memory: &[u8], x: Call) -> Answer
 
 pub fn write_block(s: &mut [u8], memory: &mut [u8], x: Call) -> Answer
     requires { ⌜ IsBlock (now s) × (wellFormedBlock (now s) ≡ true) × (length (now memory) ≡ size (decodeControl (now s) .pages)) × (5 ≤ x .op) × (x .op ≤ 6) ⌝ }
-    ensures { λ r. ⌜ (r ≡ ownAnswer (now (s .entry)) x) × (now (s .exit) ≡ ownBlock (now (s .entry)) (now (memory .entry)) x) × (now (memory .exit) ≡ ownMemory (now (s .entry)) (now (memory .entry)) x) ⌝ }
+    ensures { λ r. ⌜ (givenBack r ≡ ownGiven (now (s .entry)) x) × (now (s .exit) ≡ ownBlock (now (s .entry)) (now (memory .entry)) x) × (now (memory .exit) ≡ ownMemory (now (s .entry)) (now (memory .entry)) x) ⌝ }
 {
     if !operands::block_fits(x) {
         return Answer::Refused(Refusal::OperandOutside);

@@ -12,13 +12,14 @@ ghost use mathlib.Core.List.{List};
 ghost use Prim.Native.Nat.{ℕ};
 ghost use lib.ListN.{length};
 ghost use Rattle.layout.specs.Memory.{size};
+ghost use Rattle.chip.specs.Answers.{givenBack};
 ghost use Rattle.block.specs.Block.{IsBlock, decodeControl, wellFormedBlock};
-ghost use Rattle.own.specs.Own.{ownAnswer, ownBlock, ownMemory};
+ghost use Rattle.own.specs.Own.{ownGiven, ownBlock, ownMemory};
 
 // Opens a closed bank at a page.
 pub fn access(s: &mut [u8], x: Call) -> Answer
     requires { ⌜ IsBlock (now s) × (wellFormedBlock (now s) ≡ true) × (x .op ≡ 1) ⌝ }
-    ensures { λ r. ⌜ (r ≡ ownAnswer (now (s .entry)) x) × ((memory : List ℕ) → now (s .exit) ≡ ownBlock (now (s .entry)) memory x) ⌝ }
+    ensures { λ r. ⌜ (givenBack r ≡ ownGiven (now (s .entry)) x) × ((memory : List ℕ) → now (s .exit) ≡ ownBlock (now (s .entry)) memory x) ⌝ }
 {
     if !operands::page_fits(s, x) {
         return Answer::Refused(Refusal::OperandOutside);
@@ -33,7 +34,7 @@ pub fn access(s: &mut [u8], x: Call) -> Answer
 // Closes a bank; a closed one stays closed.
 pub fn precharge(s: &mut [u8], x: Call) -> Answer
     requires { ⌜ IsBlock (now s) × (wellFormedBlock (now s) ≡ true) × (x .op ≡ 2) ⌝ }
-    ensures { λ r. ⌜ (r ≡ ownAnswer (now (s .entry)) x) × ((memory : List ℕ) → now (s .exit) ≡ ownBlock (now (s .entry)) memory x) ⌝ }
+    ensures { λ r. ⌜ (givenBack r ≡ ownGiven (now (s .entry)) x) × ((memory : List ℕ) → now (s .exit) ≡ ownBlock (now (s .entry)) memory x) ⌝ }
 {
     if !operands::bank_fits(x) {
         return Answer::Refused(Refusal::OperandOutside);
@@ -45,7 +46,7 @@ pub fn precharge(s: &mut [u8], x: Call) -> Answer
 // Copies the open page over the named one, which becomes the open page.
 pub fn duplicate(s: &mut [u8], memory: &mut [u8], x: Call) -> Answer
     requires { ⌜ IsBlock (now s) × (wellFormedBlock (now s) ≡ true) × (length (now memory) ≡ size (decodeControl (now s) .pages)) × (x .op ≡ 3) ⌝ }
-    ensures { λ r. ⌜ (r ≡ ownAnswer (now (s .entry)) x) × (now (s .exit) ≡ ownBlock (now (s .entry)) (now (memory .entry)) x) × (now (memory .exit) ≡ ownMemory (now (s .entry)) (now (memory .entry)) x) ⌝ }
+    ensures { λ r. ⌜ (givenBack r ≡ ownGiven (now (s .entry)) x) × (now (s .exit) ≡ ownBlock (now (s .entry)) (now (memory .entry)) x) × (now (memory .exit) ≡ ownMemory (now (s .entry)) (now (memory .entry)) x) ⌝ }
 {
     if !operands::page_fits(s, x) {
         return Answer::Refused(Refusal::OperandOutside);

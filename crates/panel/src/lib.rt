@@ -8,15 +8,15 @@ use layout::Pointed;
 ghost use mathlib.Core.Path.{_≡_};
 ghost use Prim.Native.Nat.{_<_};
 ghost use lib.ListN.{length};
-ghost use Rattle.columns.specs.Columns.{columnsNumber, columnsLeft};
-ghost use Rattle.chip.specs.Answers.{packed, packedOf};
+ghost use Rattle.columns.specs.Columns.{columnsLeft};
+ghost use Rattle.chip.specs.Answers.{givenBack, packed};
 ghost use Rattle.chip.specs.Operations.{ask};
 ghost use Rattle.block.specs.OnBlock.{callNumber, blockAfter, blockMemory, freshBlock};
-ghost use Rattle.panel.specs.Packs.{numbered, freshGiven, lineOffset, pointPacked, pointGiven, columnPacked};
+ghost use Rattle.panel.specs.Packs.{valued, freshPacked, lineOffset, pointValue, pointPacked, columnPacked, columnsPacked};
 
 // Value in bits 31:0, pass in 32, written in 33.
 fn pack_done(value: u32, pass: bool, written: bool) -> u64
-    ensures { λ r. ⌜ r ≡ packedOf (Answer.Done value pass written) ⌝ }
+    ensures { λ r. ⌜ r ≡ packed (givenBack (Answer.Done value pass written)) ⌝ }
 {
     (value as u64)
         + (bits::digit_of(pass) as u64) * 0x1_0000_0000
@@ -26,7 +26,7 @@ fn pack_done(value: u32, pass: bool, written: bool) -> u64
 // A value, and a number in bits 47:40.
 fn pack(value: u32, number: u32) -> u64
     requires { ⌜ number < 256 ⌝ }
-    ensures { λ r. ⌜ r ≡ packed value 0 0 number ⌝ }
+    ensures { λ r. ⌜ r ≡ packed (valued number value) ⌝ }
 {
     (value as u64) + (number as u64) * 0x100_0000_0000
 }
@@ -71,7 +71,7 @@ pub extern "C" fn panel_call(
 // A fresh chip of P pages to a bank, whatever the block held.
 #[no_mangle]
 pub extern "C" fn panel_fresh(state: &mut [u8], pages: u32) -> u64
-    ensures { λ r. ⌜ (r ≡ freshGiven (now (state .entry)) pages) × (now (state .exit) ≡ freshBlock (now (state .entry)) pages) ⌝ }
+    ensures { λ r. ⌜ (r ≡ freshPacked (now (state .entry)) pages) × (now (state .exit) ≡ freshBlock (now (state .entry)) pages) ⌝ }
 {
     if state.len() != block::places::BLOCK_BYTES {
         return pack(0, 1);
@@ -111,7 +111,7 @@ pub extern "C" fn panel_scan_line(
 // Bank, page, line and column in one value.
 fn point_value(p: Point) -> u32
     requires { ⌜ (p .bank < 4) × (p .page < 256) × (p .line < 16) × (p .column < 80) ⌝ }
-    ensures { λ r. ⌜ r ≡ pointPacked p ⌝ }
+    ensures { λ r. ⌜ r ≡ pointValue p ⌝ }
 {
     p.bank * 0x1000_0000 + p.page * 0x1_0000 + p.line * 0x100 + p.column
 }
@@ -119,7 +119,7 @@ fn point_value(p: Point) -> u32
 // A screen point.
 #[no_mangle]
 pub extern "C" fn panel_point(pages: u32, x: u32, y: u32) -> u64
-    ensures { λ r. ⌜ r ≡ pointGiven pages x y ⌝ }
+    ensures { λ r. ⌜ r ≡ pointPacked pages x y ⌝ }
 {
     let found = layout::screen::point(pages, x, y);
     match found {
@@ -144,7 +144,7 @@ pub extern "C" fn panel_column(x: u32) -> u64
 // The whole column table, 1,280 entries of 16 bits, into the caller's 2,560 bytes.
 #[no_mangle]
 pub extern "C" fn panel_columns(table: &mut [u8]) -> u64
-    ensures { λ r. ⌜ (r ≡ numbered (columnsNumber (length (now (table .entry))))) × (now (table .exit) ≡ columnsLeft (now (table .entry))) ⌝ }
+    ensures { λ r. ⌜ (r ≡ columnsPacked (length (now (table .entry)))) × (now (table .exit) ≡ columnsLeft (now (table .entry))) ⌝ }
 {
     let filled = columns::entries::fill(table);
     match filled {

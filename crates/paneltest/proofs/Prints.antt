@@ -10,50 +10,52 @@ use Rattle.numbers.specs.Numbers.{whenDone}
 use Rattle.layout.specs.Memory.{size}
 use Rattle.chip.specs.declared.Chip.{Chip}
 use Rattle.chip.specs.State.{freshOf}
-use Rattle.chip.specs.Calls.{answeredOf, memoryOf}
-use Rattle.lines.specs.declared.reader.Parsed.{Parsed}
-use Rattle.lines.specs.declared.reader.Parsed.the-variants.{Read, NotALine}
-use Rattle.lines.specs.Lines.{onto, split, endless, linesOf, lineNumber, lineCall, parsedOf, answerReply, noLineReply, replies}
-use Rattle.lines.specs.Reading.{started, afterByte, afterBytes, ended}
-use Rattle.lines.specs.Printing.{printedLines, header, outputOf}
+use Rattle.chip.specs.Answers.{numbered}
+use Rattle.chip.specs.Calls.{callGiven, chipOf, memoryOf}
+use Rattle.lines.specs.Lines.{onto, split, endless, linesOf, textNumber, lineCall, TextGiven, isCall, noCall, textGiven, replies}
+use Rattle.lines.specs.ByByte.{started, afterByte, afterBytes, ended}
+use Rattle.lines.specs.Printing.{printedEach, heading, outputOf}
 use Rattle.lines.proofs.Whole.{bytes-append, bytes-begin, some-piece, read-whole}
 use Rattle.paneltest.specs.declared.session.Session.{Session}
-use Rattle.paneltest.specs.Session.{Run, joined, startRun, begun, lineRun, byteRun, ran, closeRun, ranAll}
+use Rattle.paneltest.specs.Session.{Run, andThen, startRun, begun, lineRun, byteRun, ran, closeRun, ranAll}
 use Rattle.paneltest.proofs.SessionRuns.{ran-append, close-line}
 
 -- ---- a line
 
 -- after a line no other has begun
-line-after : (parsed : Parsed) (chip : Chip) (memory : List ℕ)
-    → lineRun parsed chip memory .session ≡ record { chip = lineRun parsed chip memory .session .chip; reader = started }
+line-after : (text : TextGiven) (chip : Chip) (memory : List ℕ)
+    → lineRun text chip memory .session ≡ record { chip = lineRun text chip memory .session .chip; reader = started }
 unfolding lineRun
-line-after (Read call) chip memory = refl
-line-after NotALine chip memory = refl
+line-after text chip memory = go (text .number) _ _ refl refl
+  where
+    go : (k : ℕ) (a b : Run) → a .session .reader ≡ started → b .session .reader ≡ started
+        → whenDone k a b .session ≡ record { chip = whenDone k a b .session .chip; reader = started }
+    go zero a b e f = λ i. record { chip = a .session .chip; reader = e i }
+    go (suc k) a b e f = λ i. record { chip = b .session .chip; reader = f i }
 
 -- the reply to a line, and those to the lines after it
-repliesTo : Parsed → Chip → List ℕ → List (List ℕ) → List ℕ
-repliesTo parsed chip memory lines =
-    let run = lineRun parsed chip memory in
-    run .printed ++ printedLines (replies (run .session .chip) (run .memory) lines)
+repliesTo : TextGiven → Chip → List ℕ → List (List ℕ) → List ℕ
+repliesTo text chip memory lines =
+    let run = lineRun text chip memory in
+    run .printed ++ printedEach (replies (run .session .chip) (run .memory) lines)
 
 line-replies : (line : List ℕ) (lines : List (List ℕ)) (chip : Chip) (memory : List ℕ)
-    → printedLines (replies chip memory (line ∷ lines)) ≡ repliesTo (parsedOf line) chip memory lines
-unfolding repliesTo parsedOf replies printedLines lineRun answerReply
-line-replies line lines chip memory = go (lineNumber line)
+    → printedEach (replies chip memory (line ∷ lines)) ≡ repliesTo (textGiven line) chip memory lines
+unfolding repliesTo textGiven replies printedEach lineRun
+line-replies line lines chip memory = go (textNumber line)
   where
     go : (number : ℕ)
-        → printedLines
+        → printedEach
         (whenDone number
-        (answerReply (answeredOf chip memory (lineCall line) .answer)
-        ∷ replies (answeredOf chip memory (lineCall line) .chip) (memoryOf chip memory (lineCall line)) lines)
-        (noLineReply ∷ replies chip memory lines))
-        ≡ repliesTo (whenDone number (Read (lineCall line)) NotALine) chip memory lines
+        (callGiven chip memory (lineCall line) ∷ replies (chipOf chip memory (lineCall line)) (memoryOf chip memory (lineCall line)) lines)
+        (numbered 9 ∷ replies chip memory lines))
+        ≡ repliesTo (whenDone number (isCall (lineCall line)) noCall) chip memory lines
     go zero = refl
     go (suc number) = refl
 
-last-reply : (parsed : Parsed) (chip : Chip) (memory : List ℕ) → repliesTo parsed chip memory [] ≡ lineRun parsed chip memory .printed
-unfolding repliesTo replies printedLines
-last-reply parsed chip memory = append-nil (lineRun parsed chip memory .printed)
+last-reply : (text : TextGiven) (chip : Chip) (memory : List ℕ) → repliesTo text chip memory [] ≡ lineRun text chip memory .printed
+unfolding repliesTo replies printedEach
+last-reply text chip memory = append-nil (lineRun text chip memory .printed)
 
 -- ---- the lines of an input of which some bytes, the front of its first line, are read already
 
@@ -85,26 +87,26 @@ inLine : Chip → List ℕ → List ℕ → List ℕ → Run
 inLine chip line memory printed = record { session = record { chip = chip; reader = afterBytes started line }; memory = memory; printed = printed }
 
 closed : Run → Run
-closed run = joined run (closeRun (run .session) (run .memory))
+closed run = andThen run (closeRun (run .session) (run .memory))
 
 -- a last line that lacks byte 10
 last-line : (x : ℕ) (line : List ℕ) (chip : Chip) (memory printed : List ℕ)
-    → closed (inLine chip (x ∷ line) memory printed) .printed ≡ printed ++ printedLines (replies chip memory ((x ∷ line) ∷ []))
+    → closed (inLine chip (x ∷ line) memory printed) .printed ≡ printed ++ printedEach (replies chip memory ((x ∷ line) ∷ []))
 unfolding closed inLine
 last-line x line chip memory printed =
     let session : Session = record { chip = chip; reader = afterBytes started (x ∷ line) } in
     ap (λ (run : Run). printed ++ run .printed) (close-line session memory (bytes-begin started x line))
-    ∙ ap (λ (parsed : Parsed). printed ++ lineRun parsed chip memory .printed) (read-whole (x ∷ line))
-    ∙ ap (λ (l : List ℕ). printed ++ l) (sym (last-reply (parsedOf (x ∷ line)) chip memory) ∙ sym (line-replies (x ∷ line) [] chip memory))
+    ∙ ap (λ (text : TextGiven). printed ++ lineRun text chip memory .printed) (read-whole (x ∷ line))
+    ∙ ap (λ (l : List ℕ). printed ++ l) (sym (last-reply (textGiven (x ∷ line)) chip memory) ∙ sym (line-replies (x ∷ line) [] chip memory))
 
 at-end : (line : List ℕ) (chip : Chip) (memory printed : List ℕ)
-    → closed (inLine chip line memory printed) .printed ≡ printed ++ printedLines (replies chip memory (endless (ahead line ([] ∷ []))))
-unfolding closed closeRun inLine ahead endless printedLines replies afterBytes
+    → closed (inLine chip line memory printed) .printed ≡ printed ++ printedEach (replies chip memory (endless (ahead line ([] ∷ []))))
+unfolding closed closeRun inLine ahead endless printedEach replies afterBytes
 at-end [] chip memory printed = refl
 at-end (x ∷ line) chip memory printed = rw (append-nil line) (last-line x line chip memory printed)
 
 from-line : (input line : List ℕ) (chip : Chip) (memory printed : List ℕ)
-    → closed (ran (inLine chip line memory printed) input) .printed ≡ printed ++ printedLines (replies chip memory (endless (ahead line (split 10 input))))
+    → closed (ran (inLine chip line memory printed) input) .printed ≡ printed ++ printedEach (replies chip memory (endless (ahead line (split 10 input))))
 unfolding ran split byteRun inLine repliesTo afterBytes
 from-line [] line chip memory printed = at-end line chip memory printed
 from-line (x ∷ input) line chip memory printed = go (eqb x 10) (from-line input)
@@ -117,9 +119,9 @@ from-line (x ∷ input) line chip memory printed = go (eqb x 10) (from-line inpu
 
     go : (t : Bool)
         → ((line : List ℕ) (chip : Chip) (memory printed : List ℕ)
-        → closed (ran (inLine chip line memory printed) input) .printed ≡ printed ++ printedLines (replies chip memory (endless (ahead line left))))
-        → closed (ran (joined (inLine chip line memory printed) (next t)) input) .printed
-        ≡ printed ++ printedLines (replies chip memory (endless (ahead line (cond t ([] ∷ left) (onto x left)))))
+        → closed (ran (inLine chip line memory printed) input) .printed ≡ printed ++ printedEach (replies chip memory (endless (ahead line left))))
+        → closed (ran (andThen (inLine chip line memory printed) (next t)) input) .printed
+        ≡ printed ++ printedEach (replies chip memory (endless (ahead line (cond t ([] ∷ left) (onto x left)))))
     go true rest =
         let parsed = ended (afterBytes started line) in
         let run = lineRun parsed chip memory in
@@ -127,9 +129,9 @@ from-line (x ∷ input) line chip memory printed = go (eqb x 10) (from-line inpu
         (line-after parsed chip memory)
         ∙ rest [] (run .session .chip) (run .memory) (printed ++ run .printed)
         ∙ append-assoc printed (run .printed) _
-        ∙ ap (λ (p : Parsed). printed ++ repliesTo p chip memory (endless (ahead [] left))) (read-whole line)
+        ∙ ap (λ (t : TextGiven). printed ++ repliesTo t chip memory (endless (ahead [] left))) (read-whole line)
         ∙ ap (λ (l : List ℕ). printed ++ l) (sym (line-replies line (endless (ahead [] left)) chip memory))
-        ∙ ap (λ (lines : List (List ℕ)). printed ++ printedLines (replies chip memory lines)) (sym (line-cut line left (some-piece 10 input)))
+        ∙ ap (λ (lines : List (List ℕ)). printed ++ printedEach (replies chip memory lines)) (sym (line-cut line left (some-piece 10 input)))
     go false rest = rw (append-nil printed, ← (bytes-append started line (x ∷ [])), line-grown line x left (some-piece 10 input)) (rest (line ++ (x ∷ [])) chip memory printed)
 
 -- ---- the input in pieces
@@ -142,9 +144,9 @@ unfolding ran
 kept-in-front front run [] = refl
 kept-in-front front run (x ∷ piece) =
     let next = byteRun (run .session) (run .memory) x in
-    rw (append-assoc front (run .printed) (next .printed)) (kept-in-front front (joined run next) piece)
+    rw (append-assoc front (run .printed) (next .printed)) (kept-in-front front (andThen run next) piece)
 
-one-piece : (run : Run) (piece : List ℕ) → joined run (ran (startRun (run .session) (run .memory)) piece) ≡ ran run piece
+one-piece : (run : Run) (piece : List ℕ) → andThen run (ran (startRun (run .session) (run .memory)) piece) ≡ ran run piece
 one-piece run piece =
     sym (kept-in-front (run .printed) (startRun (run .session) (run .memory)) piece)
     ∙ ap (λ (l : List ℕ). ran (record { session = run .session; memory = run .memory; printed = l }) piece) (append-nil (run .printed))
@@ -155,11 +157,11 @@ all-pieces run [] = refl
 all-pieces run (piece ∷ pieces) = rw (one-piece run piece, ran-append run piece (flatten pieces)) (all-pieces (ran run piece) pieces)
 
 -- 01, The small program: the header, and what is printed while the input is read, however it comes in pieces, is the output for all of it
-pub program-prints : (pieces : List (List ℕ)) → header ++ ranAll (startRun begun (replicate (size 2) 0)) pieces .printed ≡ outputOf (flatten pieces)
+pub program-prints : (pieces : List (List ℕ)) → heading ++ ranAll (startRun begun (replicate (size 2) 0)) pieces .printed ≡ outputOf (flatten pieces)
 unfolding begun inLine afterBytes outputOf linesOf
 program-prints pieces =
     let input = flatten pieces in
     let memory : List ℕ = replicate (size 2) 0 in
-    ap (λ (run : Run). header ++ run .printed) (all-pieces (startRun begun memory) pieces)
-    ∙ ap (λ (l : List ℕ). header ++ l) (from-line input [] (freshOf 2) memory [])
-    ∙ ap (λ (lines : List (List ℕ)). header ++ printedLines (replies (freshOf 2) memory (endless lines))) (ahead-none (split 10 input) (some-piece 10 input))
+    ap (λ (run : Run). heading ++ run .printed) (all-pieces (startRun begun memory) pieces)
+    ∙ ap (λ (l : List ℕ). heading ++ l) (from-line input [] (freshOf 2) memory [])
+    ∙ ap (λ (lines : List (List ℕ)). heading ++ printedEach (replies (freshOf 2) memory (endless lines))) (ahead-none (split 10 input) (some-piece 10 input))

@@ -2,39 +2,44 @@
 use mathlib.Core.Path.{_≡_, refl}
 use mathlib.Core.Bool.{Bool, true, false, cond}
 use mathlib.Core.List.{List, [], _∷_, _++_}
-use Prim.Native.Nat.{ℕ, _+_, _*_, _≤_, _<_}
+use Prim.Native.Nat.{ℕ, zero, suc, _+_, _*_, _≤_, _<_}
 use native.Mathlib.Numerals.{add-one}
 use native.Mathlib.Omega.{arith}
 use lib.Dec.{eqb}
 use lib.ListN.{length, take, getD, length-append}
 use lib.Seq.{take-suc}
 use Rattle.chip.specs.declared.Chip.{Chip}
-use Rattle.chip.specs.Answers.{numberOf, valueOf, passOf, writtenOf}
-use Rattle.chip.specs.Calls.{answeredOf}
-use Rattle.lines.specs.declared.reader.Parsed.{Parsed}
-use Rattle.lines.specs.declared.reader.Parsed.the-variants.{Read, NotALine}
-use Rattle.lines.specs.Lines.{answerReply}
-use Rattle.lines.specs.Reading.{ended}
+use Rattle.numbers.specs.Numbers.{whenDone}
+use Rattle.chip.specs.Answers.{GivenBack}
+use Rattle.lines.specs.Lines.{TextGiven}
+use Rattle.lines.specs.Printing.{printedGiven}
+use Rattle.lines.specs.ByByte.{ended}
 use Rattle.lines.proofs.Digits.{line-count}
 use Rattle.lines.proofs.PrintStores.{stored-both}
 use Rattle.paneltest.specs.declared.session.Session.{Session}
 use Rattle.paneltest.specs.declared.session.Progress.{Progress}
-use Rattle.paneltest.specs.Session.{Run, joined, lineRun, byteRun, closeRun, startRun, ran, Leaves}
+use Rattle.paneltest.specs.Session.{Run, andThen, lineRun, byteRun, closeRun, startRun, ran, Leaves}
 
 -- ---- what functions leave, one after another
 
-leaves-joined : {part next : Run} {r s : Progress} {m n : List ℕ} {at : ℕ} {before between after : List ℕ}
-    → Leaves part r m at before between → Leaves next s n (r .at) between after → Leaves (joined part next) s n at before after
-leaves-joined first second = record { session = second .session; memory-left = second .memory-left; output = stored-both (first .output) (second .output) }
+leaves-both : {part next : Run} {r s : Progress} {m n : List ℕ} {at : ℕ} {before between after : List ℕ}
+    → Leaves part r m at before between → Leaves next s n (r .at) between after → Leaves (andThen part next) s n at before after
+leaves-both first second = record { session = second .session; memory-left = second .memory-left; output = stored-both (first .output) (second .output) }
 
 -- ---- a line is at most 44 bytes
 
-line-room : (parsed : Parsed) (chip : Chip) (memory : List ℕ) → length (lineRun parsed chip memory .printed) ≤ 44
-unfolding lineRun answerReply
-line-room (Read call) chip memory =
-    let answer = answeredOf chip memory call .answer in
-    line-count (numberOf answer) (valueOf answer) (passOf answer) (writtenOf answer)
-line-room NotALine chip memory = line-count 9 0 0 0
+given-room : (g : GivenBack) → length (printedGiven g) ≤ 44
+unfolding printedGiven
+given-room g = line-count (g .number) (g .value) (g .pass) (g .written)
+
+-- whichever of two lines it is
+line-room : (text : TextGiven) (chip : Chip) (memory : List ℕ) → length (lineRun text chip memory .printed) ≤ 44
+unfolding lineRun
+line-room text chip memory = go (text .number) _ _ (given-room _) (given-room _)
+  where
+    go : (k : ℕ) (a b : Run) → length (a .printed) ≤ 44 → length (b .printed) ≤ 44 → length (whenDone k a b .printed) ≤ 44
+    go zero a b room-a room-b = room-a
+    go (suc k) a b room-a room-b = room-b
 
 -- whichever of two runs it is
 either-room : (t : Bool) (a b : Run) → length (a .printed) ≤ 44 → length (b .printed) ≤ 44 → length (cond t a b .printed) ≤ 44
@@ -67,21 +72,21 @@ unfolding ran
 ran-room run [] = omega arith
 ran-room run (x ∷ input) =
     let next = byteRun (run .session) (run .memory) x in
-    omega (arith, ran-room (joined run next) input, byte-room (run .session) (run .memory) x, length-append (run .printed) (next .printed))
+    omega (arith, ran-room (andThen run next) input, byte-room (run .session) (run .memory) x, length-append (run .printed) (next .printed))
 
 pub ran-append : (run : Run) (a b : List ℕ) → ran run (a ++ b) ≡ ran (ran run a) b
 unfolding ran
 ran-append run [] b = refl
-ran-append run (x ∷ a) b = ran-append (joined run (byteRun (run .session) (run .memory) x)) a b
+ran-append run (x ∷ a) b = ran-append (andThen run (byteRun (run .session) (run .memory) x)) a b
 
 -- a byte more
 ran-more : (run : Run) (input : List ℕ) (i : ℕ) → i < length input
     → ran run (take (i + 1) input)
-    ≡ joined (ran run (take i input)) (byteRun (ran run (take i input) .session) (ran run (take i input) .memory) (getD input i 0))
+    ≡ andThen (ran run (take i input)) (byteRun (ran run (take i input) .session) (ran run (take i input) .memory) (getD input i 0))
 unfolding ran
 ran-more run input i h = rw (add-one i, take-suc input i 0 h, ran-append)
 
 pub leaves-more : (run : Run) (input : List ℕ) (i : ℕ) {r s : Progress} {m n : List ℕ} {at : ℕ} {before between after : List ℕ} → i < length input
     → Leaves (ran run (take i input)) r m at before between → Leaves (byteRun (r .session) m (getD input i 0)) s n (r .at) between after
     → Leaves (ran run (take (i + 1) input)) s n at before after
-leaves-more run input i h first second = rw (ran-more run input i h, ← (first .session), ← (first .memory-left)) (leaves-joined first second)
+leaves-more run input i h first second = rw (ran-more run input i h, ← (first .session), ← (first .memory-left)) (leaves-both first second)

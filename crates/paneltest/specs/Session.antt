@@ -4,14 +4,14 @@ use mathlib.Core.Bool.{cond}
 use mathlib.Core.List.{List, [], _∷_, _++_}
 use Prim.Native.Nat.{ℕ}
 use lib.Dec.{eqb}
+use Rattle.numbers.specs.Numbers.{whenDone}
 use Rattle.chip.specs.declared.Chip.{Chip}
 use Rattle.chip.specs.State.{freshOf}
-use Rattle.chip.specs.Calls.{answeredOf, memoryOf}
-use Rattle.lines.specs.declared.reader.Parsed.{Parsed}
-use Rattle.lines.specs.declared.reader.Parsed.the-variants.{Read, NotALine}
-use Rattle.lines.specs.Lines.{answerReply, noLineReply}
-use Rattle.lines.specs.Reading.{started, afterByte, ended}
-use Rattle.lines.specs.Printing.{printedLine, Stored}
+use Rattle.chip.specs.Answers.{numbered}
+use Rattle.chip.specs.Calls.{callGiven, chipOf, memoryOf}
+use Rattle.lines.specs.Lines.{TextGiven}
+use Rattle.lines.specs.ByByte.{started, afterByte, ended}
+use Rattle.lines.specs.Printing.{printedGiven, Stored}
 use Rattle.paneltest.specs.declared.session.Session.{Session}
 use Rattle.paneltest.specs.declared.session.Progress.{Progress}
 
@@ -22,8 +22,8 @@ pub record Run : Type 0 where
   pub printed : List ℕ
 
 -- one part, and another after it
-abbrev pub joined : Run → Run → Run
-joined part next = record { session = next .session; memory = next .memory; printed = part .printed ++ next .printed }
+abbrev pub andThen : Run → Run → Run
+andThen part next = record { session = next .session; memory = next .memory; printed = part .printed ++ next .printed }
 
 -- nothing read yet
 abbrev pub startRun : Session → List ℕ → Run
@@ -36,13 +36,18 @@ begun = record { chip = freshOf 2; reader = started }
 -- ---- a line
 
 -- 01, Numbers, 9: a line that is no call gives 9, and changes nothing
-unfoldable pub lineRun : Parsed → Chip → List ℕ → Run
-lineRun (Read call) chip memory = record {
-  session = record { chip = answeredOf chip memory call .chip; reader = started };
-  memory = memoryOf chip memory call;
-  printed = printedLine (answerReply (answeredOf chip memory call .answer));
-}
-lineRun NotALine chip memory = record { session = record { chip = chip; reader = started }; memory = memory; printed = printedLine noLineReply }
+unfoldable pub lineRun : TextGiven → Chip → List ℕ → Run
+lineRun text chip memory = whenDone (text .number)
+    (record {
+      session = record { chip = chipOf chip memory (text .call); reader = started };
+      memory = memoryOf chip memory (text .call);
+      printed = printedGiven (callGiven chip memory (text .call));
+    })
+    (record {
+      session = record { chip = chip; reader = started };
+      memory = memory;
+      printed = printedGiven (numbered (text .number));
+    })
 
 -- ---- the input
 
@@ -55,7 +60,7 @@ byteRun session memory x = cond (eqb x 10)
 -- a piece of the input more
 unfoldable pub ran : Run → List ℕ → Run
 ran run [] = run
-ran run (x ∷ xs) = ran (joined run (byteRun (run .session) (run .memory) x)) xs
+ran run (x ∷ xs) = ran (andThen run (byteRun (run .session) (run .memory) x)) xs
 
 -- 01, The small program: a last line may lack byte 10
 unfoldable pub closeRun : Session → List ℕ → Run
@@ -63,8 +68,8 @@ closeRun session memory = cond (session .reader .begun) (lineRun (ended (session
 
 -- what the program does with its input as it is read, in pieces of any length, and at its end
 unfoldable pub ranAll : Run → List (List ℕ) → Run
-ranAll run [] = joined run (closeRun (run .session) (run .memory))
-ranAll run (piece ∷ pieces) = ranAll (joined run (ran (startRun (run .session) (run .memory)) piece)) pieces
+ranAll run [] = andThen run (closeRun (run .session) (run .memory))
+ranAll run (piece ∷ pieces) = ranAll (andThen run (ran (startRun (run .session) (run .memory)) piece)) pieces
 
 -- ---- what a function leaves: its answer, memory and the output, as a run has them
 

@@ -2,13 +2,13 @@
 use chip::Answer;
 ghost use Prim.Native.Nat.{_+_, _≤_};
 ghost use lib.ListN.{length};
-ghost use Rattle.lines.specs.Lines.{answerReply};
-ghost use Rattle.lines.specs.Printing.{printedLine, Stored};
+ghost use Rattle.chip.specs.Answers.{givenBack};
+ghost use Rattle.lines.specs.Printing.{printedGiven, Stored};
 
 // An answer is taken apart as done or refused before its value is read.
 pub fn print(answer: Answer, output: &mut [u8], at: usize) -> usize
     requires { ⌜ at + 44 ≤ length (now output) ⌝ }
-    ensures { λ r. ⌜ Stored (now (output .entry)) at (printedLine (answerReply answer)) (now (output .exit)) r ⌝ }
+    ensures { λ r. ⌜ Stored (now (output .entry)) at (printedGiven (givenBack answer)) (now (output .exit)) r ⌝ }
 {
     let Answer::Done {
         value,

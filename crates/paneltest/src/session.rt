@@ -6,7 +6,7 @@ use lines::reader::Reader;
 ghost use mathlib.Core.Path.{_≡_};
 ghost use Prim.Native.Nat.{_+_, _*_, _≤_};
 ghost use lib.ListN.{length};
-ghost use Rattle.lines.specs.Reading.{ended};
+ghost use Rattle.lines.specs.ByByte.{ended};
 ghost use Rattle.paneltest.specs.Session.{begun, lineRun, byteRun, closeRun, startRun, ran, Leaves};
 
 pub struct Session {

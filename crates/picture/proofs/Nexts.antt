@@ -12,7 +12,7 @@ use Rattle.chip.specs.Operations.{operation}
 use Rattle.chip.specs.Changes.{ticked}
 use Rattle.chip.specs.Effects.{Move, still, copy, load, back, paint, pixelsAfter, memoryAfter}
 use Rattle.chip.specs.Refusals.{number}
-use Rattle.chip.specs.Calls.{readIn, effectIn, answeredWith, memoryWith}
+use Rattle.chip.specs.Calls.{readIn, effectIn, chipWith, memoryWith}
 use Rattle.picture.specs.Book.{Book, note}
 use Rattle.picture.specs.Flat.{Flat, flatStep}
 use Rattle.picture.specs.Drawing.{World, numberIn, next}
@@ -26,12 +26,12 @@ module _ (n : ℕ) where
       → next n (worldOf c p m g f) x
       ≡ worldOf (ticked (effectIn n c p x .control)) (pixelsAfter c p m (effectIn n c p x .move)) (memoryAfter c p m (effectIn n c p x .move))
       (note n c g (operation x) (readIn p x)) (flatStep n g f x)
-  unfolding next numberIn answeredWith memoryWith worldOf
+  unfolding next numberIn chipWith memoryWith worldOf
   next-done c p m g f x r = rw r
 
   pub next-refused : (c : Control) (p m : List ℕ) (g : Book) (f : Flat) (x : Call) (k : ℕ) → number n c (length m) x ≡ suc k
       → next n (worldOf c p m g f) x ≡ worldOf c p m g (flatStep n g f x)
-  unfolding next numberIn answeredWith memoryWith worldOf
+  unfolding next numberIn chipWith memoryWith worldOf
   next-refused c p m g f x k r = rw r
 
 -- no move changes the number of bytes

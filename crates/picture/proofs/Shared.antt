@@ -6,12 +6,11 @@ use Prim.Native.Nat.{ℕ, suc}
 use lib.ListN.{length}
 use Rattle.chip.specs.declared.Control.{Control}
 use Rattle.chip.specs.declared.Call.{Call}
-use Rattle.chip.specs.declared.Answer.{Answer}
 use Rattle.chip.specs.State.{wellFormed}
 use Rattle.chip.specs.Operations.{Operation, access, precharge, duplicate, readBlock, writeBlock, dataRead, dataWrite, writeTag, writeRegister, readRegister, unknown, operation}
 use Rattle.chip.specs.Changes.{withRegister, ticked}
 use Rattle.chip.specs.Effects.{Reading, nothingRead, reading, effect, pixelsAfter, memoryAfter}
-use Rattle.chip.specs.Answers.{doneAnswer}
+use Rattle.chip.specs.Answers.{GivenBack, effectGiven}
 use Rattle.chip.specs.Refusals.{operandsFit, asks, callTests, number}
 use Rattle.chip.specs.Calls.{readIn, effectIn}
 use Rattle.picture.specs.Book.{Book, note}
@@ -38,7 +37,7 @@ pub shared-call : (n : ℕ) (c : Control) (o : Operation) (r : Reading)
     → (asks (shared c) o ≡ asks c o)
     × (effect n (shared c) o r .control ≡ shared (effect n c o r .control))
     × ((g : Book) (l : List ℕ) → pictureAfter (shared c) g l (effect n (shared c) o r .move) ≡ pictureAfter c g l (effect n c o r .move))
-    × ((c' : Control) → seen o (doneAnswer (effect n c o r)) c' ≡ seen o (doneAnswer (effect n (shared c) o r)) (shared c'))
+    × ((c' : Control) → seen o (effectGiven (effect n c o r)) c' ≡ seen o (effectGiven (effect n (shared c) o r)) (shared c'))
     × (effect n c o r .control .pages ≡ c .pages)
 unfolding asks effect withRegister pictureAfter seen valueSeen
 shared-call n c (access b p) r = (refl, refl, λ g l. refl, λ c'. refl, refl)
@@ -65,9 +64,9 @@ shared-ticked : (c : Control) → ticked (shared c) ≡ shared (ticked c)
 unfolding ticked
 shared-ticked c = refl
 
-pub seen-shared : (o : Operation) (a : Answer) (c : Control) → seen o a c ≡ seen o a (shared c)
+pub seen-shared : (o : Operation) (g : GivenBack) (c : Control) → seen o g c ≡ seen o g (shared c)
 unfolding seen
-seen-shared o a c = refl
+seen-shared o g c = refl
 
 -- ---- a world in which both have the same control part
 

@@ -55,17 +55,6 @@ pub fn stateless(w: Write, dest: u32) -> Outcome
     }
 }
 
-// A data write of either kind.
-pub fn data_write(registers: [u32; 7], w: Write, old: u32, dest: u32) -> Outcome
-    ensures { λ r. ⌜ r ≡ outcomeOf registers w old dest ⌝ }
-{
-    if w.stateless {
-        stateless(w, dest)
-    } else {
-        stateful(registers, w, old, dest)
-    }
-}
-
 // The slot that a write goes to, of this many: its own, or with write address control 1 the one that the data names.
 pub fn into_slot(registers: [u32; 7], w: Write, slots: u32) -> u32
     requires { ⌜ 0 < slots ⌝ }

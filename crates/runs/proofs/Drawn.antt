@@ -7,7 +7,7 @@ use Rattle.chip.specs.declared.Chip.{Chip}
 use Rattle.chip.specs.declared.Call.{Call}
 use Rattle.chip.specs.State.{slots, freshOf}
 use Rattle.chip.specs.Operations.{operation}
-use Rattle.chip.specs.Calls.{answeredOf, memoryOf}
+use Rattle.chip.specs.Calls.{callGiven, chipOf, memoryOf}
 use Rattle.chip.specs.Listing.{listing}
 use Rattle.picture.specs.Drawing.{World, Seen, seen, start, next, after, chipSeen, Bytes, DrawingAgrees, Settles}
 use Rattle.picture.specs.Samples.{panes, SettlesOver, ListingSettles, PanesSettle}
@@ -20,21 +20,20 @@ use Rattle.runs.specs.Drawn.{seenOf, RunDraws, IsPicture, LeavesPicture,
 
 ran-after : (calls : List Call) (w : World) (refused : ℕ)
     → ranFrom (record { chip = w .chip; refused = refused }) (w .memory) calls .chip ≡ after slots w calls .chip
-unfolding ranFrom nextRan after next answeredOf memoryOf
+unfolding ranFrom nextRan after next chipOf memoryOf
 ran-after [] w refused = refl
 ran-after (x ∷ xs) w refused = ran-after xs (next slots w x) _
 
 left-after : (calls : List Call) (w : World) → memoryLeft (w .chip) (w .memory) calls ≡ after slots w calls .memory
-unfolding memoryLeft after next answeredOf memoryOf
+unfolding memoryLeft after next chipOf memoryOf
 left-after [] w = refl
 left-after (x ∷ xs) w = left-after xs (next slots w x)
 
 seen-after : (calls : List Call) (w : World) → seenOf (w .chip) (w .memory) calls ≡ chipSeen slots w calls
-unfolding seenOf chipSeen next answeredOf memoryOf
+unfolding seenOf chipSeen next callGiven chipOf memoryOf
 seen-after [] w = refl
 seen-after (x ∷ xs) w =
-    let given = answeredOf (w .chip) (w .memory) x in
-    ap (λ (l : List Seen). seen (operation x) (given .answer) (given .chip .control) ∷ l) (seen-after xs (next slots w x))
+    ap (λ (l : List Seen). seen (operation x) (callGiven (w .chip) (w .memory) x) (chipOf (w .chip) (w .memory) x .control) ∷ l) (seen-after xs (next slots w x))
 
 -- ---- demand 3 for `run`
 

@@ -2,7 +2,7 @@
 use mathlib.Core.Path.{_≡_, refl}
 use mathlib.Core.Bool.{Bool}
 use mathlib.Core.List.{List, [], _∷_}
-use Prim.Native.Nat.{ℕ, _+_, _<_, _≤_}
+use Prim.Native.Nat.{ℕ, zero, suc, _+_, _<_, _≤_}
 use native.Mathlib.Numerals.{add-one}
 use native.Mathlib.Omega.{arith}
 use lib.ListN.{length, drop, getD}
@@ -12,7 +12,10 @@ use Rattle.chip.specs.declared.Answer.{Answer}
 use Rattle.chip.specs.declared.Answer.the-variants.{Done, Refused}
 use Rattle.chip.specs.declared.Answered.{Answered}
 use Rattle.chip.specs.declared.Refusal.{Refusal}
-use Rattle.chip.specs.Calls.{answeredOf, memoryOf}
+use Rattle.chip.specs.Answers.{GivenBack, refusalNumber, givenBack}
+use Rattle.chip.specs.declared.Refusal.the-variants.{IllFormed, MemoryLength, UnknownOperation, OperandOutside, BitNotAllowed, BankOpen, BankClosed}
+use Rattle.numbers.specs.Numbers.{whenDone}
+use Rattle.chip.specs.Calls.{callGiven, chipOf, memoryOf}
 use Rattle.runs.specs.declared.Ran.{Ran}
 use Rattle.runs.specs.Runs.{callsIn, callAt, refusals, nextRan, ranFrom, memoryLeft}
 
@@ -48,23 +51,36 @@ calls-none (op ∷ a ∷ b ∷ c ∷ d ∷ given ∷ rest) h = absurd (omega ari
 -- ---- one call more
 
 -- what a call gave, and the count with it
-pub is-next : (ran : Ran) (memory : List ℕ) (x : Call) (given : Answered) (count : ℕ) → given ≡ answeredOf (ran .chip) memory x
-    → count ≡ ran .refused + refusals (given .answer) → record { chip = given .chip; refused = count } ≡ nextRan ran memory x
+pub is-next : (ran : Ran) (memory : List ℕ) (x : Call) (made : Answered) (count : ℕ) → givenBack (made .answer) ≡ callGiven (ran .chip) memory x
+    → made .chip ≡ chipOf (ran .chip) memory x → count ≡ ran .refused + refusals (givenBack (made .answer))
+    → record { chip = made .chip; refused = count } ≡ nextRan ran memory x
 unfolding nextRan
-is-next ran memory x given count e q = rw (q, e)
+is-next ran memory x made count e f q = rw (q, e, f)
 
-pub counts-done : (n : ℕ) (a : Answer) (value : ℕ) (pass written : Bool) → a ≡ Done value pass written → n ≡ n + refusals a
+pub counts-done : (n : ℕ) (a : Answer) (value : ℕ) (pass written : Bool) → a ≡ Done value pass written → n ≡ n + refusals (givenBack a)
 unfolding refusals
 counts-done n a value pass written e = rw e (omega arith)
 
-pub counts-refused : (n : ℕ) (a : Answer) (why : Refusal) → a ≡ Refused why → n + 1 ≡ n + refusals a
+pub counts-refused : (n : ℕ) (a : Answer) (why : Refusal) → a ≡ Refused why → n + 1 ≡ n + refusals (givenBack a)
 unfolding refusals
-counts-refused n a why e = rw e
+counts-refused n a why e = rw e (one why)
+  where
+    one : (why : Refusal) → n + 1 ≡ n + whenDone (refusalNumber why) 0 1
+    one IllFormed = refl
+    one MemoryLength = refl
+    one UnknownOperation = refl
+    one OperandOutside = refl
+    one BitNotAllowed = refl
+    one BankOpen = refl
+    one BankClosed = refl
 
-one-at-most : (a : Answer) → refusals a ≤ 1
+one-at-most : (g : GivenBack) → refusals g ≤ 1
 unfolding refusals
-one-at-most (Done value pass written) = omega arith
-one-at-most (Refused why) = omega arith
+one-at-most g = go (g .number)
+  where
+    go : (k : ℕ) → whenDone k 0 1 ≤ 1
+    go zero = omega arith
+    go (suc k) = omega arith
 
 -- ---- one turn of the run: what is left to do from the new place gives what was left to do from the old one
 
@@ -77,5 +93,5 @@ unfolding ranFrom memoryLeft nextRan
 turn numbers memory memory' at ran ran' x h q e e' = (
   rw (e, e', q, calls-more numbers at h),
   rw (e, e', q, calls-more numbers at h),
-  rw e (omega (arith, one-at-most (answeredOf (ran .chip) memory x .answer))),
+  rw e (omega (arith, one-at-most (callGiven (ran .chip) memory x))),
 )

@@ -8,7 +8,7 @@ use Rattle.chip.specs.declared.Chip.{Chip}
 use Rattle.chip.specs.declared.Call.{Call}
 use Rattle.chip.specs.State.{slots, freshOf}
 use Rattle.chip.specs.Operations.{operation}
-use Rattle.chip.specs.Calls.{answeredOf, memoryOf}
+use Rattle.chip.specs.Calls.{callGiven, chipOf, memoryOf}
 use Rattle.chip.specs.Listing.{listing}
 use Rattle.picture.specs.Book.{Book, NoneWaits}
 use Rattle.picture.specs.Flat.{Flat}
@@ -20,8 +20,7 @@ use Rattle.runs.specs.Runs.{ranOf, memoryLeft}
 unfoldable pub seenOf : Chip → List ℕ → List Call → List Seen
 seenOf chip memory [] = []
 seenOf chip memory (x ∷ xs) =
-    let given = answeredOf chip memory x in
-    seen (operation x) (given .answer) (given .chip .control) ∷ seenOf (given .chip) (memoryOf chip memory x) xs
+    seen (operation x) (callGiven chip memory x) (chipOf chip memory x .control) ∷ seenOf (chipOf chip memory x) (memoryOf chip memory x) xs
 
 module _ (P : ℕ) (memory : List ℕ) (calls : List Call) where
   -- "Suppose ..": the calls keep to the premises

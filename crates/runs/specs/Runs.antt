@@ -2,12 +2,12 @@
 use mathlib.Core.List.{List, [], _∷_}
 use Prim.Native.Nat.{ℕ, _+_}
 use lib.ListN.{getD}
+use Rattle.numbers.specs.Numbers.{whenDone}
 use Rattle.chip.specs.declared.Chip.{Chip}
 use Rattle.chip.specs.declared.Call.{Call}
-use Rattle.chip.specs.declared.Answer.{Answer}
-use Rattle.chip.specs.declared.Answer.the-variants.{Done, Refused}
 use Rattle.chip.specs.Operations.{ask}
-use Rattle.chip.specs.Calls.{answeredOf, memoryOf}
+use Rattle.chip.specs.Answers.{GivenBack}
+use Rattle.chip.specs.Calls.{callGiven, chipOf, memoryOf}
 use Rattle.runs.specs.declared.Ran.{Ran}
 
 -- ---- calls as numbers
@@ -31,15 +31,14 @@ callAt numbers at =
 -- ---- calls one after the other
 
 -- one for a call that was refused
-unfoldable pub refusals : Answer → ℕ
-refusals (Done value pass written) = 0
-refusals (Refused why) = 1
+unfoldable pub refusals : GivenBack → ℕ
+refusals g = whenDone (g .number) 0 1
 
 -- one call more
 unfoldable pub nextRan : Ran → List ℕ → Call → Ran
 nextRan ran memory x = record {
-  chip = answeredOf (ran .chip) memory x .chip;
-  refused = ran .refused + refusals (answeredOf (ran .chip) memory x .answer);
+  chip = chipOf (ran .chip) memory x;
+  refused = ran .refused + refusals (callGiven (ran .chip) memory x);
 }
 
 -- a list of calls more
@@ -53,4 +52,4 @@ ranOf chip memory calls = ranFrom (record { chip = chip; refused = 0 }) memory c
 
 unfoldable pub memoryLeft : Chip → List ℕ → List Call → List ℕ
 memoryLeft chip memory [] = memory
-memoryLeft chip memory (x ∷ xs) = memoryLeft (answeredOf chip memory x .chip) (memoryOf chip memory x) xs
+memoryLeft chip memory (x ∷ xs) = memoryLeft (chipOf chip memory x) (memoryOf chip memory x) xs

@@ -22,7 +22,7 @@ use Rattle.chip.specs.Painting.{painted, marked, tagWith}
 use Rattle.chip.specs.Changes.{withRegister, ticked, tagOf}
 use Rattle.chip.specs.Effects.{Reading, effect, pixelsAfter}
 use Rattle.chip.specs.Refusals.{number}
-use Rattle.chip.specs.Calls.{readIn, answeredWith, answeredOf}
+use Rattle.chip.specs.Calls.{readIn, chipWith, chipOf}
 use Rattle.chip.proofs.Accepted.{accepted, page-range}
 use Rattle.block.proofs.Sized.{listed-set, Sized, resized}
 
@@ -95,12 +95,12 @@ word-given x h = line-holds (λ p. Word (p .0)) (callTable x) (x .op) (unknown, 
     (tt, (tt, (tt, (tt, (tt, (tt, (tt, (tt, (tt, (tt, (tt, (tt, (h, (h, (h, (tt, tt))))))))))))))))
 
 -- done or refused
-whenDone-sized : (k : ℕ) (a b : Answered) → (k ≡ 0 → Sized (a .chip)) → Sized (b .chip) → Sized (whenDone k a b .chip)
+whenDone-sized : (k : ℕ) (a b : Chip) → (k ≡ 0 → Sized a) → Sized b → Sized (whenDone k a b)
 whenDone-sized zero a b done refused = done refl
 whenDone-sized (suc k) a b done refused = refused
 
-pub stays-sized : (chip : Chip) (memory : List ℕ) (x : Call) → Sized chip → x .given < 2 ^ 32 → Sized (answeredOf chip memory x .chip)
-unfolding answeredOf answeredWith
+pub stays-sized : (chip : Chip) (memory : List ℕ) (x : Call) → Sized chip → x .given < 2 ^ 32 → Sized (chipOf chip memory x)
+unfolding chipOf chipWith
 stays-sized chip memory x z h = whenDone-sized (number slots (chip .control) (length memory) x) _ _
     (λ e. done-sized (chip .control) (chip .pixels) memory (readIn (chip .pixels) x) z (operation x)
     (accepted slots (chip .control) (length memory) x e .in-range) (word-given x h))

@@ -43,7 +43,8 @@ use denote.Triple.Walked.{says, Stays, stay-none, gave-slice, walkOf, AllGo, goe
 use denote.Triple.Clauses.{ensured, lasts}
 use denote.Exit.{yes}
 use borrow.Table.OneValue.{part-in, part-out}
-use Rattle.chip.specs.Calls.{answeredOf, memoryOf}
+use Rattle.chip.specs.Answers.{givenBack}
+use Rattle.chip.specs.Calls.{callGiven, chipOf, memoryOf}
 use Rattle.chip.specs.declared.Chip.{Chip}
 use Rattle.chip.specs.declared.Call.{Call}
 use Rattle.chip.specs.declared.Answer.{Answer}
@@ -102,7 +103,7 @@ module _ {M : Type 1} (𝓤 : URA M) (H : Heap 𝓤) (A : Atoms 𝓤) (W : Given
 
   -- what the callee ensures, of its answer, the last chip and the last list
   abbrev Says : Answer → Chip → List ℕ → Type 0
-  Says r h′ zs = (r ≡ answeredOf h ys x .answer) × (h′ ≡ answeredOf h ys x .chip) × (zs ≡ memoryOf h ys x)
+  Says r h′ zs = (givenBack r ≡ callGiven h ys x) × (h′ ≡ chipOf h ys x) × (zs ≡ memoryOf h ys x)
 
   -- the chip, lent at the block l by the name δ
   abbrev lent : ℕ → GName → RefT Chip
@@ -125,7 +126,7 @@ module _ {M : Type 1} (𝓤 : URA M) (H : Heap 𝓤) (A : Atoms 𝓤) (W : Given
   exits r h′ zs w is e l =
       qed W ((‵ (flft κ q) ⊛ ‵ ftrue) ∷ ‵ (finally u8 γ zs) ∷ []) ∵
       suffices ! _ (ends-at 𝓤 H A advanced.ended stayed (advanced.clauses 𝓤 H A at-mem run) W (((κ, tt), (q, tt), tt, a, vals), tt) w (made r h′) (tt, (zs, (tt, tt))) (tt, (l, (tt, tt)))) $
-      says ! ((λ i. record { answer = e .0 i; chip = e .1 i }), e .2) $ frame ! $
+      says ! e $ frame ! $
       nothing ! $ owned ! X.the-row (Is X.the-row) (LL.makes X.the-type X′.the-plain 𝓤 H A) x _ gx $ fjoin ! $ move ! (1 ∷ 0 ∷ []) $ fjoin ! $
       owned ! T.the-row (Is T.the-row) (LL.makes T.the-type T′.the-plain 𝓤 H A) h _ g $ fjoin ! $ owned ! D.the-row (Is D.the-row) (LL.makes D.the-type D′.the-plain 𝓤 H A) (made r h′) _ is $ move ! (1 ∷ 0 ∷ []) $ done !
 

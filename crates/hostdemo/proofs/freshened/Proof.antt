@@ -41,7 +41,8 @@ use denote.Triple.Walked.{says, Stays, stay-none, walkOf, AllGo, goes-none, Walk
 use denote.Triple.Clauses.{ensured, lasts}
 use denote.Exit.{yes}
 use borrow.Table.OneValue.{part-in, part-out}
-use Rattle.chip.specs.Calls.{freshAnswered}
+use Rattle.chip.specs.Answers.{givenBack}
+use Rattle.chip.specs.Calls.{freshGiven, freshChip}
 use Rattle.chip.specs.declared.Chip.{Chip}
 use Rattle.chip.specs.declared.Answer.{Answer}
 use Rattle.chip.specs.declared.Answered.{Answered}
@@ -87,7 +88,7 @@ module _ {M : Type 1} (𝓤 : URA M) (H : Heap 𝓤) (A : Atoms 𝓤) (W : Given
 
   -- what the callee ensures, of its answer and the last chip
   abbrev Says : Answer → Chip → Type 0
-  Says r h′ = (r ≡ freshAnswered h P .answer) × (h′ ≡ freshAnswered h P .chip)
+  Says r h′ = (givenBack r ≡ freshGiven P) × (h′ ≡ freshChip h P)
 
   -- the chip, lent at the block l by the name δ
   abbrev lent : ℕ → GName → RefT Chip
@@ -109,7 +110,7 @@ module _ {M : Type 1} (𝓤 : URA M) (H : Heap 𝓤) (A : Atoms 𝓤) (W : Given
   exits r h′ w is e =
       qed W (‵ ftrue ∷ []) ∵
       suffices ! _ (ends-at 𝓤 H A freshened.ended stayed (freshened.clauses 𝓤 H A at-mem run) W ((tt, tt, tt, a, vals), tt) w (made r h′) (tt, (tt, tt)) (tt, (tt, tt))) $
-      says ! (λ i. record { answer = e .0 i; chip = e .1 i }) $ owned ! u32 (Is u32) (uint-makes 𝓤 H A W w32) P _ (refl, fits) $ fjoin ! $ owned ! T.the-row (Is T.the-row) (LL.makes T.the-type T′.the-plain 𝓤 H A) h _ g $ fjoin ! $
+      says ! e $ owned ! u32 (Is u32) (uint-makes 𝓤 H A W w32) P _ (refl, fits) $ fjoin ! $ owned ! T.the-row (Is T.the-row) (LL.makes T.the-type T′.the-plain 𝓤 H A) h _ g $ fjoin ! $
       owned ! D.the-row (Is D.the-row) (LL.makes D.the-type D′.the-plain 𝓤 H A) (made r h′) _ is $ move ! (1 ∷ 0 ∷ []) $ nothing ! $ done !
 
   module _ (C : Calls 𝓤 H) (Λ : Loops 𝓤 H) (fm : FmC 𝓤 H (W .laws) C) (known : Triple 𝓤 (C #hosts·lent·fresh-on) (FreshOn 𝓤 H A at-mem run)) where

@@ -1,5 +1,5 @@
 -- `panel::pack_done` meets its contract. Assumes nothing.
-use Rattle.chip.specs.Answers.{packed, packedOf}
+use Rattle.chip.specs.Answers.{packed}
 use Rattle.bits.proofs.Laws.{digit-lt}
 use native.Mathlib.Omega.{arith}
 use borrow.Author.Needs.{needs}
@@ -13,7 +13,7 @@ add-result-2 : tie.Need-add-result-2
 add-result-2 c = omega (arith, digit-lt (c .before .before .args .pass), digit-lt (c .before .before .args .written), c .before .digit-of .ensures, c .digit-of2 .ensures)
 
 returns : tie.Need-returns
-unfolding packedOf packed
+unfolding packed
 returns c = omega (arith, c .before .digit-of .ensures, c .digit-of2 .ensures)
 
 pub pack-done-spec : {M : Type 1} → statement M

@@ -1,6 +1,7 @@
 -- `panel::panel_call` meets its contract: the call on the block, and its answer packed. Assumes nothing.
 use Rattle.block.specs.OnBlock.{callNumber}
-use Rattle.chip.specs.Answers.{packed, packedOf}
+use Rattle.chip.specs.Answers.{numbered, givenBack, packed}
+use Rattle.chip.specs.declared.Answer.{Answer}
 use Rattle.panel.proofs.Packings.{number-lt, refused-packed}
 use Prim.Native.Nat.{ℕ}
 use mathlib.Core.Path.{sym, ap, _∙_}
@@ -19,7 +20,7 @@ returns c =
     let told : tie.After-enum-told = c .before .before in
     let acted : tie.After-act = told .before .before .before .before .before .before in
     let own = acted .act .ensures in
-    (c .pack .ensures ∙ ap (λ (n : ℕ). packed 0 0 0 n) (c .before .number .ensures) ∙ refused-packed (acted .act .result) _ (told .enum-told .given .1) ∙ ap packedOf (own .0), own .1, own .2)
+    (c .pack .ensures ∙ ap (λ (n : ℕ). packed (numbered n)) (c .before .number .ensures) ∙ refused-packed (acted .act .result) _ (told .enum-told .given .1) ∙ ap packed (own .0), own .1, own .2)
 
 returns-2 : tie.Need-returns-2
 unfolding callNumber
@@ -27,7 +28,7 @@ returns-2 c =
     let told : tie.After-answer = c .before .before in
     let acted : tie.After-act = told .before .before .before .before .before .before in
     let own = acted .act .ensures in
-    (c .pack-done .ensures ∙ sym (ap packedOf (told .answer .given .1)) ∙ ap packedOf (own .0), own .1, own .2)
+    (c .pack-done .ensures ∙ sym (ap (λ (a : Answer). packed (givenBack a)) (told .answer .given .1)) ∙ ap packed (own .0), own .1, own .2)
 
 pub panel-call-spec : {M : Type 1} → statement M
 panel-call-spec = tie.close (tie.spec (λ c κs. search needs) (λ c. search needs) (λ c. search needs) (λ c κs. search needs) pack-requires (λ c. search needs) (λ c. search needs) returns (λ c κs. search needs) (λ c. search needs) (λ c. search needs) returns-2)

@@ -12,7 +12,7 @@ use Rattle.layout.specs.Memory.{pagesFit}
 use Rattle.numbers.proofs.Tests.{and-right, test-holds, test-fails}
 use Rattle.block.specs.Block.{blockBytes, encode}
 use Rattle.block.specs.OnBlock.{freshBlockNumber, freshBlock}
-use Rattle.panel.specs.Packs.{numbered, freshGiven}
+use Rattle.panel.specs.Packs.{freshPacked}
 use Rattle.panel.proofs.panel_fresh.Statement.{statement}
 use Rattle.panel.proofs.panel_fresh.Tie as tie
 
@@ -24,13 +24,13 @@ long : (c : tie.After-pages-fit) → eqb (length (now (entry c .args .state))) b
 long c = eq-eqb _ blockBytes (c .before .if1 .left)
 
 returns : tie.Need-returns
-unfolding freshGiven numbered freshBlock freshBlockNumber first
+unfolding freshPacked freshBlock freshBlockNumber first
 returns c =
     let wrong = ne-eqb (length (now (c .before .before .before .args .state))) blockBytes (c .before .if1 .taken) in
     (c .pack .ensures ∙ rw wrong, rw wrong)
 
 returns-2 : tie.Need-returns-2
-unfolding freshGiven numbered freshBlock freshBlockNumber first
+unfolding freshPacked freshBlock freshBlockNumber first
 returns-2 c =
     let outside = test-fails (c .before .before .pages-fit .ensures) (c .before .if2 .taken) in
     (c .pack2 .ensures ∙ rw (long (c .before .before), outside), rw (long (c .before .before), outside))
@@ -42,11 +42,14 @@ cast-fresh c =
     omega (arith, leb-true P 257 (and-right (leb 1 P) (leb P 257) (test-holds (c .before .before .pages-fit .ensures) (c .before .if2 .left))))
 
 returns-3 : tie.Need-returns-3
-unfolding freshGiven numbered freshBlock freshBlockNumber first
+unfolding freshPacked freshBlock freshBlockNumber first
 returns-3 c =
     let past : tie.Else2 = c .before .before .before .before .before .before in
     let inside = test-holds (past .before .pages-fit .ensures) (past .if2 .left) in
     (c .pack3 .ensures ∙ rw (long (past .before), inside), c .before .before .before .store .ensures ∙ rw (long (past .before), inside) (ap encode (c .before .before .before .before .fresh .ensures)))
 
+fresh-requires : tie.Need-fresh-requires
+fresh-requires c κs = test-holds (c .before .before .pages-fit .ensures) (c .before .if2 .left)
+
 pub panel-fresh-spec : {M : Type 1} → statement M
-panel-fresh-spec = tie.close (tie.spec (λ c κs. search needs) returns (λ c κs. search needs) (λ c κs. search needs) returns-2 cast-fresh (λ c κs. search needs) (λ c κs. search needs) (λ c κs. search needs) (λ c. search needs) returns-3)
+panel-fresh-spec = tie.close (tie.spec (λ c κs. search needs) returns (λ c κs. search needs) (λ c κs. search needs) returns-2 cast-fresh fresh-requires (λ c κs. search needs) (λ c κs. search needs) (λ c. search needs) returns-3)

@@ -6,25 +6,26 @@ use native.Mathlib.Omega.{arith}
 use denote.Ref.{now}
 use borrow.Author.Needs.{needs}
 use Rattle.numbers.specs.Numbers.{whenDone}
-use Rattle.layout.specs.Memory.{size, lineStart}
+use Rattle.layout.specs.Memory.{pagesFit, size, lineStart}
 use Rattle.numbers.proofs.Tests.{test-holds, test-fails}
 use Rattle.layout.proofs.ScanLines as lines
 use Rattle.chip.specs.Answers.{packed}
-use Rattle.block.specs.Block.{wellFormedBlock}
+use Rattle.block.specs.Block.{decodeControl, wellFormedBlock}
 use Rattle.block.specs.OnBlock.{blockLineNumber}
-use Rattle.own.proofs.WellFormed.{well-long}
-use Rattle.panel.specs.Packs.{lineOffset}
+use Rattle.chip.proofs.Accepted.{formed}
+use Rattle.own.proofs.WellFormed.{well-long, well-control}
+use Rattle.panel.specs.Packs.{valued, lineOffset}
 use Rattle.panel.proofs.Packings.{line-told, line-lt}
 use Rattle.panel.proofs.panel_scan_line.Statement.{statement}
 use Rattle.panel.proofs.panel_scan_line.Tie as tie
 
 -- a number that is not 0 comes with value 0
-refused : {n m : ℕ} (v : ℕ) → n ≡ m → (n ≡ 0 → ⊥) → packed 0 0 0 n ≡ packed (whenDone m v 0) 0 0 m
+refused : {n m : ℕ} (v : ℕ) → n ≡ m → (n ≡ 0 → ⊥) → packed (valued n 0) ≡ packed (valued m (whenDone m v 0))
 refused {m = zero} v e f = absurd (f e)
-refused {m = suc m} v e f = ap (λ (k : ℕ). packed 0 0 0 k) e
+refused {m = suc m} v e f = ap (λ (k : ℕ). packed (valued k 0)) e
 
 -- and number 0 with the value
-given : {n m v w : ℕ} → n ≡ m → n ≡ 0 → v ≡ w → packed v 0 0 0 ≡ packed (whenDone m w 0) 0 0 m
+given : {n m v w : ℕ} → n ≡ m → n ≡ 0 → v ≡ w → packed (valued 0 v) ≡ packed (valued m (whenDone m w 0))
 given e z q = rw (sym e ∙ z, q)
 
 returns : tie.Need-returns
@@ -51,16 +52,22 @@ returns-2 c =
     let a = entry past .args in
     c .pack2 .ensures ∙ refused _ (line-told (now (a .state)) (now (a .memory)) (a .bank) (a .page) (a .line) (well past) (c .before .before .before .pages .ensures) (c .before .before .line-number .ensures)) (c .before .if2 .taken)
 
+-- past that test P fits
+fits : (c : tie.After-pages) → pagesFit (c .pages .result) ≡ true
+fits c = rw (c .pages .ensures) (formed (decodeControl _) (well-control _ (well (c .before))) .0)
+
+line-number-requires : tie.Need-line-number-requires
+line-number-requires c κs = fits c
+
 line-start-requires : tie.Need-line-start-requires
 line-start-requires c κs =
     let in-range = lines.passed (c .before .before .pages .result) _ _ _ _ (sym (c .before .line-number .ensures) ∙ c .if2 .left) in
-    (in-range .pages, in-range .bank-lt, in-range .page-lt, in-range .line-lt)
+    (lines.pages-most _ (fits (c .before .before)), in-range .bank-lt, in-range .page-lt, in-range .line-lt)
 
 cast-pack : tie.Need-cast-pack
 unfolding size
 cast-pack c =
-    let in-range = lines.passed (c .before .before .before .pages .result) _ _ _ _ (sym (c .before .before .line-number .ensures) ∙ c .before .if2 .left) in
-    omega (arith, c .line-start .ensures .1, in-range .pages)
+    omega (arith, c .line-start .ensures .1, lines.pages-most _ (fits (c .before .before .before)))
 
 returns-3 : tie.Need-returns-3
 unfolding lineOffset
@@ -71,4 +78,4 @@ returns-3 c =
     (c .before .line-start .ensures .0 ∙ ap (λ (P : ℕ). lineStart P (a .bank) (a .page) (a .line)) (paged .pages .ensures))
 
 pub panel-scan-line-spec : {M : Type 1} → statement M
-panel-scan-line-spec = tie.close (tie.spec (λ c κs. search needs) (λ c κs. search needs) returns pages-requires (λ c. search needs) (λ c κs. search needs) pack-requires-2 returns-2 line-start-requires cast-pack (λ c κs. search needs) returns-3)
+panel-scan-line-spec = tie.close (tie.spec (λ c κs. search needs) (λ c κs. search needs) returns pages-requires (λ c. search needs) line-number-requires pack-requires-2 returns-2 line-start-requires cast-pack (λ c κs. search needs) returns-3)

@@ -1,12 +1,12 @@
 -- `panel::point_value` meets its contract. Assumes nothing.
-use Rattle.panel.specs.Packs.{pointPacked}
+use Rattle.panel.specs.Packs.{pointValue}
 use native.Mathlib.Omega.{arith}
 use borrow.Author.Needs.{needs}
 use Rattle.panel.proofs.point_value.Statement.{statement}
 use Rattle.panel.proofs.point_value.Tie as tie
 
 returns : tie.Need-returns
-unfolding pointPacked
+unfolding pointValue
 returns c = omega arith
 
 pub point-value-spec : {M : Type 1} → statement M

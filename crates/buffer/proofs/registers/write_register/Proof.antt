@@ -12,16 +12,14 @@ use Rattle.bits.specs.Bits.{within}
 use Rattle.numbers.proofs.Tests.{and-left, test-holds, test-fails}
 use Rattle.numbers.specs.Numbers.{first}
 use Rattle.chip.specs.declared.Control.{Control}
-use Rattle.chip.specs.declared.Answer.{Answer}
-use Rattle.chip.specs.declared.Answer.the-variants.{Done}
 use Rattle.chip.specs.Operations.{Operation, writeRegister, inRange}
 use Rattle.chip.specs.Changes.{withRegister}
 use Rattle.chip.specs.Effects.{still, leaving, effect}
 use Rattle.chip.specs.Refusals.{asks}
-use Rattle.chip.specs.Answers.{refusalOf}
+use Rattle.chip.specs.Answers.{GivenBack, doneWith}
 use Rattle.block.specs.Block.{decodeControl, tickedIn, pixelsIn}
 use Rattle.block.proofs.Puts.{Stores, stores-of, stores-register, stores-flags}
-use Rattle.own.specs.Own.{ownAnswer, ownBlock}
+use Rattle.own.specs.Own.{ownGiven, ownBlock}
 use Rattle.own.proofs.Owns.{by-asks, refused, operands-refused, put-done}
 use Rattle.own.proofs.OwnLines.{row-write-register}
 use Rattle.buffer.proofs.Settings.{register-range, plain-register, compare-register}
@@ -60,7 +58,7 @@ writable-bits-requires : tie.Need-writable-bits-requires
 writable-bits-requires c κs = range c
 
 returns-2 : tie.Need-returns-2
-unfolding inRange asks first refusalOf
+unfolding inRange asks first
 returns-2 c =
     let there = c .before .before .before in
     let start = entry there in
@@ -70,9 +68,9 @@ returns-2 c =
     (res .0, res .1)
 
 -- past both tests no number applies: the call is done with what was put, if that stores the register's write
-put-register-done : (c : tie.Else2) {k : Control} {put after : List ℕ} {answer : Answer} → (let start = entry (past c) in let s = now (start .args .s) in let x = start .args .x in
-    Stores put k (pixelsIn s) → k ≡ withRegister (decodeControl s) (x .a) (x .given) → (answer ≡ Done 0 false false) × (after ≡ tickedIn put)
-    → (answer ≡ ownAnswer s x) × ((memory : List ℕ) → after ≡ ownBlock s memory x))
+put-register-done : (c : tie.Else2) {k : Control} {put after : List ℕ} {given : GivenBack} → (let start = entry (past c) in let s = now (start .args .s) in let x = start .args .x in
+    Stores put k (pixelsIn s) → k ≡ withRegister (decodeControl s) (x .a) (x .given) → (given ≡ doneWith 0 0 0) × (after ≡ tickedIn put)
+    → (given ≡ ownGiven s x) × ((memory : List ℕ) → after ≡ ownBlock s memory x))
 unfolding inRange asks first effect
 put-register-done c stored is ends =
     let start = entry (past c) in

@@ -4,9 +4,9 @@ use mathlib.Core.Path.{ap, _∙_}
 use Prim.Native.Nat.{ℕ, _^_, _<_}
 use denote.Ref.{now}
 use borrow.Author.Needs.{needs}
-use Rattle.block.specs.OnBlock.{blockAnswer, blockAfter, blockMemory}
+use Rattle.block.specs.OnBlock.{blockGiven, blockAfter, blockMemory}
 use Rattle.block.specs.Block.{decode}
-use Rattle.stored.proofs.ByValue.{answer-by-value, chip-by-value, memory-by-value}
+use Rattle.stored.proofs.ByValue.{given-by-value, chip-by-value, memory-by-value}
 use Rattle.stored.proofs.Sizes.{sized}
 use Rattle.calls.proofs.value.perform.Statement.{statement}
 use Rattle.calls.proofs.value.perform.Tie as tie
@@ -25,9 +25,10 @@ returns c =
     let z = sized chip _ (start .good .0) in
     let kept = stored .store .ensures in
     let own = acted .act .ensures in
-    let answers = own .0 ∙ ap (λ (l : List ℕ). blockAnswer l m x) kept ∙ answer-by-value chip z m x in
+    let gives = own .0 ∙ ap (λ (l : List ℕ). blockGiven l m x) kept ∙ given-by-value chip z m x in
     let leaves = c .read .ensures ∙ ap decode (own .1 ∙ ap (λ (l : List ℕ). blockAfter l m x) kept) ∙ chip-by-value chip z m x (given-fits start) in (
-      λ i. record { answer = answers i; chip = leaves i },
+      gives,
+      leaves,
       own .2 ∙ ap (λ (l : List ℕ). blockMemory l m x) kept ∙ memory-by-value chip z m x,
     )
 

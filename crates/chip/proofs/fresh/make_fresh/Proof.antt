@@ -1,5 +1,5 @@
 -- `chip::fresh::make_fresh` meets its contract: done exactly where P fits. Assumes nothing.
-use mathlib.Core.Path.{_≡_}
+use mathlib.Core.Path.{_≡_, refl}
 use mathlib.Core.Bool.{true}
 use native.Mathlib.Omega.{arith}
 use lib.Dec.{leb}
@@ -9,8 +9,7 @@ use Rattle.numbers.specs.Numbers.{first}
 use Rattle.layout.specs.Memory.{pagesFit}
 use Rattle.numbers.proofs.Tests.{and-right, test-holds, test-fails}
 use Rattle.chip.specs.State.{freshNumber}
-use Rattle.chip.specs.Answers.{refusalOf}
-use Rattle.chip.specs.Calls.{freshAnswered}
+use Rattle.chip.specs.Calls.{freshGiven, freshChip}
 use Rattle.chip.proofs.fresh.make_fresh.Statement.{statement}
 use Rattle.chip.proofs.fresh.make_fresh.Tie as tie
 
@@ -18,8 +17,8 @@ fits : (c : tie.Else1) → pagesFit (c .before .before .args .pages) ≡ true
 fits c = test-holds (c .before .pages-fit .ensures) (c .if1 .left)
 
 returns : tie.Need-returns
-unfolding freshAnswered freshNumber first refusalOf
-returns c = rw (test-fails (c .before .pages-fit .ensures) (c .if1 .taken))
+unfolding freshGiven freshChip freshNumber first
+returns c = rw (test-fails (c .before .pages-fit .ensures) (c .if1 .taken)) (refl, refl)
 
 cast-fresh : tie.Need-cast-fresh
 unfolding pagesFit
@@ -28,8 +27,11 @@ cast-fresh c =
     omega (arith, leb-true pages 257 (and-right (leb 1 pages) (leb pages 257) (fits c)))
 
 returns-2 : tie.Need-returns-2
-unfolding freshAnswered freshNumber first
-returns-2 c = rw (fits (c .before), c .fresh .ensures)
+unfolding freshGiven freshChip freshNumber first
+returns-2 c = rw (fits (c .before), c .fresh .ensures) (refl, refl)
+
+fresh-requires : tie.Need-fresh-requires
+fresh-requires c κs = fits c
 
 pub make-fresh-spec : {M : Type 1} → statement M
-make-fresh-spec = tie.close (tie.spec (λ c κs. search needs) returns cast-fresh (λ c κs. search needs) returns-2)
+make-fresh-spec = tie.close (tie.spec (λ c κs. search needs) returns cast-fresh fresh-requires returns-2)

@@ -3,17 +3,18 @@ use Prim.Native.Nat.{_<_}
 use native.Mathlib.Omega.{arith}
 use borrow.Author.Needs.{needs}
 use borrow.Author.Tests.{lt-ltb, le-ltb}
-use Rattle.columns.specs.Columns.{columnEntry, columnTable, columnFound}
+use Rattle.numbers.specs.Numbers.{first}
+use Rattle.columns.specs.Columns.{columnEntry, columnTable, columnNumber, entryGiven, columnGiven}
 use Rattle.columns.proofs.Tables.{getD-table}
 use Rattle.columns.proofs.entries.column.Statement.{statement}
 use Rattle.columns.proofs.entries.column.Tie as tie
 
 returns : tie.Need-returns
-unfolding columnFound
+unfolding columnGiven entryGiven columnNumber first
 returns c = rw (le-ltb (c .before .args .x) 1280 (omega arith))
 
 returns-2 : tie.Need-returns-2
-unfolding columnFound columnTable
+unfolding columnGiven entryGiven columnNumber first columnTable
 returns-2 c =
     let x = c .before .before .args .x in
     let on : x < 1280 = omega arith in

@@ -8,7 +8,7 @@ use lib.ListN.{length, getD, set, length-set}
 use borrow.Author.Needs.{needs}
 use borrow.Author.Tests.{eq-eqb, ne-eqb}
 use Rattle.numbers.specs.Numbers.{first}
-use Rattle.columns.specs.Columns.{columnEntry, columnTable, columnByte, columnBytes, columnsNumber, columnsLeft, filledOf}
+use Rattle.columns.specs.Columns.{columnEntry, columnTable, columnByte, columnBytes, columnsNumber, columnsLeft}
 use Rattle.columns.proofs.Tables.{getD-table, is-table, filled-next}
 use Rattle.columns.proofs.Columns.{entry-lt, lower-byte, upper-byte}
 use Rattle.columns.proofs.entries.fill.Statement.{statement}
@@ -27,7 +27,7 @@ unfolding columnTable
 entry-read c = ap (λ entries. getD entries (c .before .loop .x) 0) (c .before .before .columns .ensures) ∙ getD-table 1280 columnEntry (c .before .loop .x) (omega arith)
 
 returns : tie.Need-returns Inv-loop μ-loop
-unfolding filledOf columnsLeft columnsNumber first
+unfolding columnsLeft columnsNumber first
 returns c = rw (ne-eqb _ _ (c .if1 .taken)) (refl, refl)
 
 loop-holds : tie.Need-loop-holds Inv-loop μ-loop
@@ -54,7 +54,7 @@ loop-again c =
     )
 
 returns-2 : tie.Need-returns-2 Inv-loop μ-loop
-unfolding filledOf columnsLeft columnsNumber first columnBytes
+unfolding columnsLeft columnsNumber first columnBytes
 returns-2 c =
     let inv = c .before .loop .inv in
     let last : c .before .loop .x ≡ 1280 = omega arith in

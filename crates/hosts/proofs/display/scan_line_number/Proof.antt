@@ -4,6 +4,7 @@ use borrow.Author.Needs.{needs}
 use Rattle.numbers.specs.Numbers.{first}
 use Rattle.numbers.proofs.Tests.{test-holds, test-fails}
 use Rattle.chip.specs.Refusals.{scanLineNumber}
+use Rattle.chip.proofs.Accepted.{formed}
 use Rattle.chip.proofs.StateForms.{line-told}
 use Rattle.hosts.proofs.display.scan_line_number.Statement.{statement}
 use Rattle.hosts.proofs.display.scan_line_number.Tie as tie
@@ -17,5 +18,8 @@ returns-2 c =
     let a = c .before .before .before .before .args in
     c .line-number .ensures ∙ line-told (a .control) (a .length) (a .bank) (a .page) (a .line) (test-holds (c .before .before .before .well-formed .ensures) (c .before .before .if1 .left))
 
+line-number-requires : tie.Need-line-number-requires
+line-number-requires c κs = formed _ (test-holds (c .before .before .well-formed .ensures) (c .before .if1 .left)) .0
+
 pub scan-line-number-spec : {M : Type 1} → statement M
-scan-line-number-spec = tie.close (tie.spec (λ c κs. search needs) returns (λ c. search needs) (λ c κs. search needs) returns-2)
+scan-line-number-spec = tie.close (tie.spec (λ c κs. search needs) returns (λ c. search needs) line-number-requires returns-2)

@@ -42,7 +42,8 @@ use denote.Triple.Table.{entered, cited}
 use denote.Triple.Walked.{says, Stays, stay-ref, stay-none, gave-slice, walkOf, AllGo, goes-none, goes-ref, goes-gave-slice, Walks, ends-at, walked, walk-meets}
 use denote.Triple.Clauses.{ensured, lasts}
 use denote.Exit.{yes}
-use Rattle.chip.specs.Calls.{answeredOf, memoryOf}
+use Rattle.chip.specs.Answers.{givenBack}
+use Rattle.chip.specs.Calls.{callGiven, chipOf, memoryOf}
 use Rattle.chip.specs.declared.Chip.{Chip}
 use Rattle.chip.specs.declared.Call.{Call}
 use Rattle.chip.specs.declared.Answered.{Answered}
@@ -100,7 +101,7 @@ module _ {M : Type 1} (𝓤 : URA M) (H : Heap 𝓤) (A : Atoms 𝓤) (W : Given
 
   -- what the callee ensures, of its result and the last list
   abbrev Says : Answered → List ℕ → Type 0
-  Says r zs = (r ≡ answeredOf h ys x) × (zs ≡ memoryOf h ys x)
+  Says r zs = (givenBack (r .answer) ≡ callGiven h ys x) × (r .chip ≡ chipOf h ys x) × (zs ≡ memoryOf h ys x)
 
   abbrev to-perform : Perform 𝓤 H A at-mem run .Ghost
   to-perform = (((κ′, tt), (q′, tt), tt, (h, (memory, (x, tt))), (mach h ∷ [], (s ∷ [], (mach-call x ∷ [], tt)))), tt)
@@ -117,7 +118,7 @@ module _ {M : Type 1} (𝓤 : URA M) (H : Heap 𝓤) (A : Atoms 𝓤) (W : Given
   exits r zs w is e l =
       qed W (‵ (fobs γ (T.the-row .coded .code (r .chip))) ∷ ‵ (fbor κ (Body (mem T.the-row) b o γ)) ∷ ‵ (flft κ q) ∷ (‵ (flft κ′ q′) ⊛ ‵ ftrue) ∷ ‵ (finally u8 γ′ zs) ∷ []) ∵
       suffices ! _ (ends-at 𝓤 H A call-on.ended stayed (call-on.clauses 𝓤 H A at-mem run) W (((κ, (κ′, tt)), (q, (q′, tt)), bounds, a, vals), tt) w (r .answer) (r .chip, (zs, (tt, tt))) (tt, (l, (tt, tt)))) $
-      says ! (ap (λ (k : Answered). k .answer) (e .0), ap (λ (k : Answered). k .chip) (e .0), e .1) $ move ! (2 ∷ 3 ∷ []) $ join ! $ frame ! $
+      says ! e $ move ! (2 ∷ 3 ∷ []) $ join ! $ frame ! $
       feqI ! (List Val) (vptr b o ∷ []) (vptr b o ∷ []) refl $ fjoin3 ! $ nothing ! $ owned ! X.the-row (Is X.the-row) (LL.makes X.the-type X′.the-plain 𝓤 H A) x _ gx $ fjoin ! $
       move ! (2 ∷ 0 ∷ []) $ fjoin ! $ move ! (1 ∷ 0 ∷ []) $ fjoin ! $ owned ! E.the-row (Is E.the-row) (EL.makes E.the-type E′.the-plain 𝓤 H A) (r .answer) _ is $ move ! (1 ∷ 0 ∷ []) $ done !
 

@@ -40,7 +40,8 @@ use denote.Triple.Table.{entered, cited}
 use denote.Triple.Walked.{says, Stays, stay-ref, stay-none, walkOf, AllGo, goes-none, goes-ref, Walks, ends-at, walked, walk-meets}
 use denote.Triple.Clauses.{ensured, lasts}
 use denote.Exit.{yes}
-use Rattle.chip.specs.Calls.{freshAnswered}
+use Rattle.chip.specs.Answers.{givenBack}
+use Rattle.chip.specs.Calls.{freshGiven, freshChip}
 use Rattle.chip.specs.declared.Chip.{Chip}
 use Rattle.chip.specs.declared.Answered.{Answered}
 use Rattle.chip.proofs.Chip as T
@@ -68,13 +69,17 @@ stayed = (stay-ref (0 ∷ []) tt (plain (λ _. T.the-row)), (stay-none (λ _. u3
 abbrev mach : Chip → Val
 mach chip = LL.val T.the-type T′.the-laws chip
 
+-- what the callee ensures, of its result
+abbrev Says : Chip → ℕ → Answered → Type 0
+Says h P r = (givenBack (r .answer) ≡ freshGiven P) × (r .chip ≡ freshChip h P)
+
 module _ {M : Type 1} (𝓤 : URA M) (H : Heap 𝓤) (A : Atoms 𝓤) (at-mem : Memory → SProp 𝓤) (run : Routine → Fun 𝓤) where
   -- the contract that the proof cites
   abbrev Fresh : Contract 𝓤
   Fresh = tripleOf 𝓤 H A make-fresh.signature (make-fresh.spec 𝓤 H A at-mem run)
 
-  made-of : (h : Chip) (P : ℕ) (r : Answered) → ent 𝓤 (ensured 𝓤 H A make-fresh.ended (make-fresh.clauses 𝓤 H A at-mem run) tt (h, (P, tt)) tt r) (fact 𝓤 (r ≡ freshAnswered h P))
-  made-of h P r = exE 𝓤 _ (λ ws. snd∗ 𝓤 (sem 𝓤 H A (lasts make-fresh.ended tt (h, (P, tt)) ws)) (fact 𝓤 (r ≡ freshAnswered h P)))
+  made-of : (h : Chip) (P : ℕ) (r : Answered) → ent 𝓤 (ensured 𝓤 H A make-fresh.ended (make-fresh.clauses 𝓤 H A at-mem run) tt (h, (P, tt)) tt r) (fact 𝓤 (Says h P r))
+  made-of h P r = exE 𝓤 _ (λ ws. snd∗ 𝓤 (sem 𝓤 H A (lasts make-fresh.ended tt (h, (P, tt)) ws)) (fact 𝓤 (Says h P r)))
 
 -- the chip h is lent at (b, o) by the name γ; P is the number of pages asked for
 module _ {M : Type 1} (𝓤 : URA M) (H : Heap 𝓤) (A : Atoms 𝓤) (W : Given 𝓤 H A) (at-mem : Memory → SProp 𝓤) (run : Routine → Fun 𝓤) (κ : Lft) (q : Share) (b o : ℕ) (γ : GName) (h : Chip) (P : ℕ) (fits : P < 2 ^ 32) where
@@ -96,12 +101,12 @@ module _ {M : Type 1} (𝓤 : URA M) (H : Heap 𝓤) (A : Atoms 𝓤) (W : Given
       nothing ! $ move ! (1 ∷ 0 ∷ []) $ fjoin ! $ owned ! T.the-row (Is T.the-row) (LL.makes T.the-type T′.the-plain 𝓤 H A) h _ g $ fjoin ! $ nothing ! $ join ! $ frame ! $ done !
 
   -- what is left at the return is what the contract promises
-  exits : (r : Answered) (w : Val) → Is E.the-row (r .answer) (w ∷ []) → r ≡ freshAnswered h P
+  exits : (r : Answered) (w : Val) → Is E.the-row (r .answer) (w ∷ []) → Says h P r
       → ent 𝓤 (⋆ 𝓤 H A (‵ (fobs γ (T.the-row .coded .code (r .chip))) ∷ ‵ (fbor κ (Body (mem T.the-row) b o γ)) ∷ ‵ (flft κ q) ∷ [])) (Post w)
   exits r w is e =
       qed W (‵ (fobs γ (T.the-row .coded .code (r .chip))) ∷ ‵ (fbor κ (Body (mem T.the-row) b o γ)) ∷ ‵ (flft κ q) ∷ []) ∵
       suffices ! _ (ends-at 𝓤 H A fresh-on.ended stayed (fresh-on.clauses 𝓤 H A at-mem run) W (((κ, tt), (q, tt), tt, a, vals), tt) w (r .answer) (r .chip, (tt, tt)) (tt, (tt, tt))) $
-      says ! (ap (λ (k : Answered). k .answer) e, ap (λ (k : Answered). k .chip) e) $ nothing ! $ move ! (3 ∷ 0 ∷ []) $ join ! $ frame ! $
+      says ! e $ nothing ! $ move ! (3 ∷ 0 ∷ []) $ join ! $ frame ! $
       feqI ! (List Val) (vptr b o ∷ []) (vptr b o ∷ []) refl $ fjoin3 ! $ nothing ! $ owned ! u32 (Is u32) (uint-makes 𝓤 H A W w32) P _ (refl, fits) $ fjoin ! $ move ! (1 ∷ 0 ∷ []) $ fjoin ! $
       owned ! E.the-row (Is E.the-row) (EL.makes E.the-type E′.the-plain 𝓤 H A) (r .answer) _ is $ move ! (1 ∷ 0 ∷ []) $ done !
 
@@ -121,7 +126,7 @@ module _ {M : Type 1} (𝓤 : URA M) (H : Heap 𝓤) (A : Atoms 𝓤) (W : Given
         move ! (6 ∷ []) $ fsplit ! $ use1 W (raw (Fresh 𝓤 H A at-mem run .pre to-fresh)) (goes g) $
         calls-at ! fm (Fresh 𝓤 H A at-mem run) known to-fresh (and-then ! (load ! (from ! (stop !)) (look ! 8 refl)) (and-then ! (load ! (from ! (stop !)) (look ! 12 refl)) (no-more !))) (λ w.
         use1 W (later (some (λ (r : Answered). (‵ ftrue ⊛ ‵ (D.the-row .own r (w ∷ []))) ⊛ raw (ensured 𝓤 H A make-fresh.ended (make-fresh.clauses 𝓤 H A at-mem run) tt (h, (P, tt)) tt r)))) (id⊢ 𝓤 _) $ await ! tt $ pick ! (λ r.
-        split ! $ move ! (1 ∷ []) $ use1 W (raw (fact 𝓤 (r ≡ freshAnswered h P))) (made-of 𝓤 H A at-mem run h P r) $ heard ! (r ≡ freshAnswered h P) (λ e. split ! $ drop ! $
+        split ! $ move ! (1 ∷ []) $ use1 W (raw (fact 𝓤 (Says h P r))) (made-of 𝓤 H A at-mem run h P r) $ heard ! (Says h P r) (λ e. split ! $ drop ! $
         peeks ! D.the-row (Is D.the-row) (shows 𝓤 H A D.the-row) r (w ∷ []) (λ is.
         -- [what r owns; …; the chip's cell; what it owned; the open borrow; obs; auth; …; _4; …]: _3 = r, *_1 = _3.chip, _0 = _3.answer
         land ! (from ! (stop !)) (init ! 10 refl (LL.lawful D.the-type D′.the-laws 𝓤 H A W .typed r _ is .0)) $ rewrite ! 10 (λ (u : Val). ‵ (fat fullShare D′.mir l3 0 u)) (ap only (LL.tells D.the-type D′.the-laws r _ is)) refl $

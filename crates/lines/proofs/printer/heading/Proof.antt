@@ -1,11 +1,11 @@
 -- `lines::printer::heading` meets its contract, by computation. Assumes nothing.
 use mathlib.Core.Path.{refl}
-use Rattle.lines.specs.Printing.{header}
+use Rattle.lines.specs.Printing.{heading}
 use Rattle.lines.proofs.printer.heading.Statement.{statement}
 use Rattle.lines.proofs.printer.heading.Tie as tie
 
 returns : tie.Need-returns
-unfolding header
+unfolding heading
 returns c = refl
 
 pub heading-spec : {M : Type 1} → statement M

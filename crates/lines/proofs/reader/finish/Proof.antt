@@ -1,7 +1,7 @@
 -- `lines::reader::finish` meets its contract: the definition's own test. Assumes nothing.
 use borrow.Author.Needs.{needs}
 use borrow.Author.Tests.{not-true, not-false}
-use Rattle.lines.specs.Reading.{complete, ended}
+use Rattle.lines.specs.ByByte.{complete, ended}
 use Rattle.lines.proofs.reader.finish.Statement.{statement}
 use Rattle.lines.proofs.reader.finish.Tie as tie
 

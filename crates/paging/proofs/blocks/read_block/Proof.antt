@@ -15,7 +15,7 @@ use Rattle.chip.specs.Refusals.{asks}
 use Rattle.block.specs.Block.{decodeControl}
 use Rattle.bank.proofs.Slots.{slot-inside}
 use Rattle.block.proofs.Puts.{stores-tag, stores-pixels, stores-of}
-use Rattle.own.proofs.Owns.{operand-outside, closed-refused, open-passes, open-there, block-bounds, as-stored, ends-answer, ends-block}
+use Rattle.own.proofs.Owns.{operand-outside, closed-refused, open-passes, open-there, block-bounds, as-stored, ends-given, ends-block}
 use Rattle.own.proofs.OwnLines.{row-read-block}
 use Rattle.paging.proofs.blocks.read_block.Statement.{statement}
 use Rattle.paging.proofs.blocks.read_block.Tie as tie
@@ -86,7 +86,7 @@ returns-3 c =
     let at = address (decodeControl s .pages) (x .a) (openPage (decodeControl s .banks) (x .a)) (x .b) in
     let was = stores-of s (λ a. omega (arith, fits .before .before .before .slice-known .given a)) (start .pre .1) in
     let held = stores-pixels was 32 (inSlot (x .c)) (λ i old. getD (now (start .args .memory)) (at i) 0) (slot-inside (x .c) (range fits .2)) in (
-      ends-answer s x r none (done .ensures .0),
+      ends-given s x r none (done .ensures .0),
       ends-block s x r none _ (done .ensures .1) (as-stored (tagged c .put-tag .ensures) (stores-tag (as-stored (load .load-slot .ensures) held) (x .c) 0 (range fits .2) (lit< tt))),
     )
 

@@ -6,13 +6,13 @@ use native.Mathlib.Omega.{arith}
 use denote.Ref.{now}
 use borrow.Author.Needs.{needs}
 use Rattle.bank.specs.Work.{tagged}
-use Rattle.chip.specs.declared.Answer.the-variants.{Done}
+use Rattle.chip.specs.Answers.{doneWith}
 use Rattle.chip.specs.Effects.{memoryAfter, effect, pixelsAfter}
 use Rattle.chip.specs.Operations.{inRange}
 use Rattle.chip.specs.State.{slots}
 use Rattle.chip.specs.Refusals.{asks}
 use Rattle.block.proofs.Puts.{stores-of}
-use Rattle.own.proofs.Owns.{operand-outside, closed-refused, open-passes, open-there, block-bounds, ends-answer, ends-block, ends-memory}
+use Rattle.own.proofs.Owns.{operand-outside, closed-refused, open-passes, open-there, block-bounds, ends-given, ends-block, ends-memory}
 use Rattle.own.proofs.OwnLines.{row-write-block}
 use Rattle.paging.proofs.blocks.write_block.Statement.{statement}
 use Rattle.paging.proofs.blocks.write_block.Tie as tie
@@ -80,7 +80,7 @@ returns-3 c =
     let r = row-write-block (start .args .x) (start .pre .3) (start .pre .4) in
     let none = open-passes s (start .args .x) r (fits .before .block-fits .ensures) (fits .if1 .left) (past .before .open-page .ensures) refl (past .if2 .left) in
     let bytes = c .before .before .before .tagged-bytes .ensures ∙ ap tagged (counted c .tag .ensures) in (
-      ends-answer s (start .args .x) r none (done .ensures .0 ∙ ap (λ (v : ℕ). Done v false false) bytes),
+      ends-given s (start .args .x) r none (done .ensures .0 ∙ ap (λ (v : ℕ). doneWith v 0 0) bytes),
       ends-block s (start .args .x) r none _ (done .ensures .1) (stores-of s (λ a. omega (arith, fits .before .before .before .slice-known .given a)) (start .pre .1)),
       ends-memory s (start .args .x) r none _ (wrote .write-slot .ensures),
     )

@@ -10,7 +10,7 @@ use Rattle.chip.specs.Operations.{inRange}
 use Rattle.block.specs.Block.{decodeControl}
 use Rattle.block.proofs.Puts.{stores-of, stores-page}
 use Rattle.own.proofs.WellFormed.{pages-in}
-use Rattle.own.proofs.Owns.{operand-outside, open-refused, closed-passes, page-bounds, as-stored, ends-answer, ends-block}
+use Rattle.own.proofs.Owns.{operand-outside, open-refused, closed-passes, page-bounds, as-stored, ends-given, ends-block}
 use Rattle.own.proofs.OwnLines.{row-access}
 use Rattle.paging.proofs.pages.access.Statement.{statement}
 use Rattle.paging.proofs.pages.access.Tie as tie
@@ -74,7 +74,7 @@ returns-3 c =
     let none = closed-passes s x r (fits .before .page-fits .ensures) (fits .if1 .left) (past .before .open-page .ensures) refl (past .if2 .left) in
     let was = stores-of s (λ a. omega (arith, fits .before .before .before .slice-known .given a)) (start .pre .1) in
     let held = as-stored (put c .put-page .ensures) (stores-page was (x .a) (x .b) (range fits .0) (page-small fits)) in
-    (ends-answer s x r none (done .ensures .0), λ memory. ends-block s x r none memory (done .ensures .1) held)
+    (ends-given s x r none (done .ensures .0), λ memory. ends-block s x r none memory (done .ensures .1) held)
 
 pub access-spec : {M : Type 1} → statement M
 access-spec = tie.close (tie.spec (λ c κs. search needs) (λ c. search needs) returns open-page-requires (λ c. search needs) returns-2 cast-put-page put-page-requires (λ c κs. search needs) (λ c. search needs) returns-3)

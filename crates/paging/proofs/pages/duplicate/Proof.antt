@@ -10,7 +10,7 @@ use Rattle.chip.specs.Operations.{inRange}
 use Rattle.block.specs.Block.{decodeControl}
 use Rattle.block.proofs.Puts.{stores-of, stores-page}
 use Rattle.own.proofs.WellFormed.{pages-in}
-use Rattle.own.proofs.Owns.{operand-outside, closed-refused, open-passes, open-there, page-bounds, as-stored, ends-answer, ends-block, ends-memory}
+use Rattle.own.proofs.Owns.{operand-outside, closed-refused, open-passes, open-there, page-bounds, as-stored, ends-given, ends-block, ends-memory}
 use Rattle.own.proofs.OwnLines.{row-duplicate}
 use Rattle.paging.proofs.pages.duplicate.Statement.{statement}
 use Rattle.paging.proofs.pages.duplicate.Tie as tie
@@ -84,7 +84,7 @@ returns-3 c =
     let r = row-duplicate x (start .pre .3) in
     let none = open-passes s x r (fits .before .page-fits .ensures) (fits .if1 .left) (past .before .open-page .ensures) refl (past .if2 .left) in
     let was = stores-of s (λ a. omega (arith, fits .before .before .before .before .slice-known .given a)) (start .pre .1) in (
-      ends-answer s x r none (done .ensures .0),
+      ends-given s x r none (done .ensures .0),
       ends-block s x r none _ (done .ensures .1) (as-stored (put .put-page .ensures) (stores-page was (x .a) (x .b) (range fits .0) (page-small fits))),
       ends-memory s x r none _ (rw (read .pages .ensures, past .before .open-page .ensures) at (copy .copy-page-in .ensures)),
     )

@@ -14,7 +14,7 @@ use Rattle.chip.specs.Operations.{precharge, inRange}
 use Rattle.chip.specs.State.{closed}
 use Rattle.block.specs.Block.{decodeControl}
 use Rattle.block.proofs.Puts.{stores-of, stores-page}
-use Rattle.own.proofs.Owns.{by-asks, operand-outside, as-stored, ends-answer, ends-block}
+use Rattle.own.proofs.Owns.{by-asks, operand-outside, as-stored, ends-given, ends-block}
 use Rattle.own.proofs.OwnLines.{row-precharge}
 use Rattle.paging.proofs.pages.precharge.Statement.{statement}
 use Rattle.paging.proofs.pages.precharge.Tie as tie
@@ -53,7 +53,7 @@ returns-2 c =
     let none = by-asks (decodeControl s) (precharge (x .a)) _ (test-holds (fits .before .bank-fits .ensures) (fits .if1 .left)) refl in
     let was = stores-of s (λ a. omega (arith, fits .before .before .slice-known .given a)) (start .pre .1) in
     let held = as-stored (put c .put-page .ensures) (stores-page was (x .a) 65535 (bank-there fits) (lit< tt)) in
-    (ends-answer s x r none (done .ensures .0), λ memory. ends-block s x r none memory (done .ensures .1) held)
+    (ends-given s x r none (done .ensures .0), λ memory. ends-block s x r none memory (done .ensures .1) held)
 
 pub precharge-spec : {M : Type 1} → statement M
 precharge-spec = tie.close (tie.spec (λ c κs. search needs) returns put-page-requires (λ c κs. search needs) (λ c. search needs) returns-2)

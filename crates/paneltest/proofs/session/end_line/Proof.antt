@@ -1,17 +1,19 @@
 -- `paneltest::session::end_line` meets its contract: a line that is no call, and one that is. Assumes nothing.
-use mathlib.Core.Path.{refl, sym, _∙_}
+use mathlib.Core.Path.{refl, sym, ap, _∙_}
 use borrow.Author.Needs.{needs}
+use Rattle.lines.specs.Lines.{parsedGiven}
+use Rattle.lines.specs.Printing.{printedGiven}
 use Rattle.paneltest.specs.Session.{lineRun}
 use Rattle.paneltest.proofs.session.end_line.Statement.{statement}
 use Rattle.paneltest.proofs.session.end_line.Tie as tie
 
 returns : tie.Need-returns
-unfolding lineRun
+unfolding lineRun printedGiven
 returns c =
     let told : tie.After-enum-told = c .before .before .before .before .before in
     let finished : tie.After-finish = told .before .before in
     let chip = finished .before .before .before .before .before .args .session .chip in
-    rw (sym (finished .finish .ensures) ∙ told .enum-told .given .1)
+    rw (sym (finished .finish .ensures) ∙ ap parsedGiven (told .enum-told .given .1))
     (record {
       session = λ i. record { chip = chip; reader = c .start .ensures i };
       memory-left = refl;
@@ -24,10 +26,10 @@ returns-2 c =
     let printed = c .before .before .before in
     let made = printed .before .before .before .before .before in
     let told = made .before .before .before in
-    rw (sym (told .before .before .finish .ensures) ∙ told .parsed .given .1)
+    rw (sym (told .before .before .finish .ensures) ∙ ap parsedGiven (told .parsed .given .1))
     (record {
-      session = λ i. record { chip = made .perform .ensures .0 i .chip; reader = c .start2 .ensures i };
-      memory-left = made .perform .ensures .1;
+      session = λ i. record { chip = made .perform .ensures .1 i; reader = c .start2 .ensures i };
+      memory-left = made .perform .ensures .2;
       output = rw (← (made .perform .ensures .0)) (printed .print .ensures);
     })
 

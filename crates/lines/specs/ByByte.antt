@@ -6,9 +6,7 @@ use lib.Dec.{eqb, ltb}
 use Rattle.chip.specs.declared.Call.{Call}
 use Rattle.chip.specs.Operations.{ask}
 use Rattle.lines.specs.declared.reader.Reader.{Reader}
-use Rattle.lines.specs.declared.reader.Parsed.{Parsed}
-use Rattle.lines.specs.declared.reader.Parsed.the-variants.{Read, NotALine}
-use Rattle.lines.specs.Lines.{isDigit}
+use Rattle.lines.specs.Lines.{isDigit, TextGiven, isCall, noCall}
 
 -- a reader that holds no number
 abbrev pub holdingNone : Bool → Bool → Reader
@@ -53,5 +51,5 @@ afterBytes r (x ∷ xs) = afterBytes (afterByte r x) xs
 abbrev pub complete : Reader → Bool
 complete r = r .sound && eqb (r .whole) 5 && ltb 0 (r .digits)
 
-unfoldable pub ended : Reader → Parsed
-ended r = cond (complete r) (Read (pushed (r .call) (r .value))) NotALine
+unfoldable pub ended : Reader → TextGiven
+ended r = cond (complete r) (isCall (pushed (r .call) (r .value))) noCall
