@@ -12,7 +12,7 @@ use Rattle.pixel.proofs.Uses.{byte-merge}
 use Rattle.layout.specs.Memory.{inBank, onLine, lineOf, columnOf, inPage}
 use Rattle.layout.proofs.Places.{inPage-lt}
 use Rattle.lists.specs.Update.{update}
-use Rattle.lists.specs.Words.{wordAt, putWord}
+use Rattle.lists.specs.Words.{Bytes, wordAt, putWord}
 use Rattle.bank.specs.Work.{inSlot, backByte}
 use Rattle.lists.proofs.Words.{byte-word-at, word-turn}
 
@@ -41,7 +41,7 @@ slot-word-at slot w n = sym (add-assoc (slot * 32) (4 * w) n)
 
 -- byte n of a word merged with the slot's is what a write-back makes of that byte of the block
 back-word : (part pixels : List ℕ) (a slot mask tag w n : ℕ)
-    → ((i : ℕ) → getD part i 0 < 2 ^ 8) → ((i : ℕ) → getD pixels i 0 < 2 ^ 8) → n < 4
+    → Bytes part → Bytes pixels → n < 4
     → byte (mergeWord (wordAt part a) (wordAt pixels (slot * 32 + 4 * w)) mask (tag / 2 ^ (4 * w))) n
     ≡ backByte mask tag (λ i. getD pixels (inSlot slot i) 0) (4 * w + n) (getD part (a + n) 0)
 unfolding backByte
@@ -57,7 +57,7 @@ module _ (page k slot w a : ℕ) (here : a ≡ page * 1280 + inPage k (4 * w)) w
   block-word n h = rw here (bank-word page k w n h)
 
   -- of a load: word w of the block, put into the slot
-  pub load-turn : (part pixels₀ pixels : List ℕ) → ((i : ℕ) → getD part i 0 < 2 ^ 8)
+  pub load-turn : (part pixels₀ pixels : List ℕ) → Bytes part
       → pixels ≡ update (4 * w) (inSlot slot) (λ i was. getD part (inBank page (inPage k i)) 0) pixels₀ → (x : ℕ) → x ≡ wordAt part a
       → putWord (slot * 32 + 4 * w) x pixels ≡ update (4 * (w + 1)) (inSlot slot) (λ i was. getD part (inBank page (inPage k i)) 0) pixels₀
   load-turn part pixels₀ pixels bytes e x read =
@@ -65,7 +65,7 @@ module _ (page k slot w a : ℕ) (here : a ≡ page * 1280 + inPage k (4 * w)) w
       (λ n h. slot-word-at slot w n) (λ n h. rw (read, block-word n h) (byte-word-at part a bytes n h))
 
   -- of a write-back: word w of the block, merged with the slot's
-  pub back-turn : (mask tag : ℕ) (pixels part₀ part : List ℕ) → ((i : ℕ) → getD part i 0 < 2 ^ 8) → ((i : ℕ) → getD pixels i 0 < 2 ^ 8)
+  pub back-turn : (mask tag : ℕ) (pixels part₀ part : List ℕ) → Bytes part → Bytes pixels
       → part ≡ update (4 * w) (λ i. inBank page (inPage k i)) (backByte mask tag (λ i. getD pixels (inSlot slot i) 0)) part₀
       → (x : ℕ) → x ≡ mergeWord (wordAt part a) (wordAt pixels (slot * 32 + 4 * w)) mask (tag / 2 ^ (4 * w))
       → putWord a x part ≡ update (4 * (w + 1)) (λ i. inBank page (inPage k i)) (backByte mask tag (λ i. getD pixels (inSlot slot i) 0)) part₀

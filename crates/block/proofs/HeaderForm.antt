@@ -6,10 +6,9 @@ use Prim.Native.Nat.{ℕ, _+_, _*_, _^_, _<_}
 use native.Mathlib.Decide.{ℕ-discrete}
 use native.Mathlib.Omega.{arith}
 use lib.Dec.{eqb}
-use lib.ListN.{getD}
 use borrow.Author.Tests.{eq-eqb, ne-eqb}
 use Rattle.bits.specs.Bits.{joined}
-use Rattle.lists.specs.Words.{halfAt, wordAt, numbersAt, halvesAt}
+use Rattle.lists.specs.Words.{Bytes, halfAt, wordAt, numbersAt, halvesAt}
 use Rattle.lists.proofs.Words.{half-at-lt}
 use Rattle.block.specs.Block.{banksAt, registersAt, flagsAt, tagsAt, pixelsAt, blockBytes, header, same}
 
@@ -26,7 +25,7 @@ abbrev pub pair : ℕ → ℕ → ℕ
 pair x y = x + y * 2 ^ 16
 
 -- two half words are two numbers exactly if their word is those two
-pair-test : (s : List ℕ) (p x y : ℕ) → ((a : ℕ) → getD s a 0 < 2 ^ 8) → x < 2 ^ 16
+pair-test : (s : List ℕ) (p x y : ℕ) → Bytes s → x < 2 ^ 16
     → (eqb (halfAt s p) x && eqb (halfAt s (p + 2)) y) ≡ eqb (wordAt s p) (pair x y)
 pair-test s p x y bytes hx = go (ℕ-discrete (halfAt s p) x) (ℕ-discrete (halfAt s (p + 2)) y)
   where
@@ -53,7 +52,7 @@ regroup true true true true true true true = refl
 regroup true true true true true true false = refl
 
 -- the header's test, as code makes it
-pub header-test : (s : List ℕ) → ((a : ℕ) → getD s a 0 < 2 ^ 8) → same (halvesAt 8 s 0) (header (halfAt s 0))
+pub header-test : (s : List ℕ) → Bytes s → same (halvesAt 8 s 0) (header (halfAt s 0))
     ≡ (eqb (halfAt s 2) 8 && (eqb (wordAt s 4) (pair banksAt registersAt) && (eqb (wordAt s 8) (pair flagsAt tagsAt) && eqb (wordAt s 12) (pair pixelsAt blockBytes))))
 unfolding same numbersAt header
 header-test s bytes =

@@ -3,3 +3,4 @@ pub mod Parts
 pub mod RoundTrip
 pub mod Puts
 pub mod HeaderForm
+pub mod ReadBack

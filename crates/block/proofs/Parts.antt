@@ -15,7 +15,7 @@ use Rattle.chip.specs.declared.Control.{Control}
 use Rattle.chip.specs.declared.Chip.{Chip}
 use Rattle.chip.specs.Changes.{withPage, withTag, withFlags, withStored, ticked}
 use Rattle.block.specs.Block.{banksAt, registersAt, flagsAt, tagsAt, pixelsAt, blockBytes, pageAt, registerAt, counterAt, tagAt, header, flags, controlParts, parts, encode, putTag}
-use Rattle.block.proofs.Sized.{Sized}
+use Rattle.block.specs.Kept.{Sized}
 
 -- this chip with another control part
 abbrev pub under : Chip → Control → Chip

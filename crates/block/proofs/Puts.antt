@@ -5,16 +5,16 @@ use mathlib.Core.List.{List}
 use Prim.Native.Nat.{ℕ, _+_, _-_, _*_, _%_, _^_, _<_, _≤_}
 use native.Mathlib.Omega.{arith}
 use native.Mathlib.Nat.{add-assoc}
-use lib.ListN.{getD}
 use Rattle.bits.specs.Bits.{byte, digit}
 use Rattle.lists.specs.Update.{update}
-use Rattle.lists.specs.Words.{putHalf, putWord}
+use Rattle.lists.specs.Words.{Bytes, putHalf, putWord}
 use Rattle.lists.proofs.Updates.{length-update, update-at}
 use Rattle.chip.specs.declared.Control.{Control}
 use Rattle.chip.specs.declared.Chip.{Chip}
 use Rattle.chip.specs.Changes.{withPage, withTag, withFlags, withStored, ticked}
 use Rattle.block.specs.Block.{pageAt, registerAt, flagsAt, counterAt, pixelsAt, encode, decodeControl, pixelsIn, decode, putTag, tickedIn, wellFormedBlock}
-use Rattle.block.proofs.Sized.{listed-set, Sized, resized}
+use Rattle.block.specs.Kept.{Sized}
+use Rattle.block.proofs.Sized.{listed-set, resized}
 use Rattle.block.proofs.Parts.{page-put, register-put, flags-put, counter-put, tag-put, pixels-put}
 use Rattle.block.proofs.RoundTrip.{control-read, decoded-sized, encode-decode, well-parts}
 
@@ -23,7 +23,7 @@ pub record Stores (s : List ℕ) (c : Control) (pixels : List ℕ) : Type 0 wher
   pub sized : Sized (record { control = c; pixels = pixels })
   pub is : s ≡ encode (record { control = c; pixels = pixels })
 
-pub stores-of : (s : List ℕ) → ((a : ℕ) → getD s a 0 < 2 ^ 8) → wellFormedBlock s ≡ true → Stores s (decodeControl s) (pixelsIn s)
+pub stores-of : (s : List ℕ) → Bytes s → wellFormedBlock s ≡ true → Stores s (decodeControl s) (pixelsIn s)
 unfolding decode
 stores-of s bytes well = record { sized = decoded-sized s bytes (well-parts s well .0); is = sym (encode-decode s bytes well) }
 

@@ -12,7 +12,7 @@ use lib.Seq.{length-take-le}
 use borrow.Author.Tests.{eqb-true, eq-eqb}
 use Rattle.bits.specs.Bits.{bit, digit, within}
 use Rattle.numbers.proofs.Tests.{and-left, and-right}
-use Rattle.lists.specs.Words.{halfAt, wordAt, numbersAt, halves, words, halvesAt, wordsAt}
+use Rattle.lists.specs.Words.{Bytes, halfAt, wordAt, numbersAt, halves, words, halvesAt, wordsAt}
 use Rattle.lists.proofs.Seams.{startOf, part-in, cut, total, cut-whole}
 use Rattle.lists.proofs.Words.{half-at-lt, word-at-lt}
 use Rattle.lists.proofs.Rows.{length-row-at, halves-in, words-in, halves-back, words-back, halves-lt, words-lt}
@@ -20,7 +20,7 @@ use Rattle.chip.specs.declared.Control.{Control}
 use Rattle.chip.specs.declared.Chip.{Chip}
 use Rattle.chip.specs.State.{wellFormed}
 use Rattle.block.specs.Block.{banksAt, registersAt, flagsAt, tagsAt, pixelsAt, pixelBytes, blockBytes, IsBlock, counterAt, header, flags, controlParts, parts, encode, decodeControl, pixelsIn, decode, same, wellFormedBlock}
-use Rattle.block.proofs.Sized.{Sized}
+use Rattle.block.specs.Kept.{Sized}
 use Rattle.block.proofs.Parts.{starts, length-encode}
 
 -- ---- the flags' word
@@ -180,7 +180,7 @@ well-parts s well =
       and-right (long && headed && flagged) (wellFormed (decodeControl s)) well,
     )
 
-module _ (s : List ℕ) (bytes : (a : ℕ) → getD s a 0 < 2 ^ 8) where
+module _ (s : List ℕ) (bytes : Bytes s) where
   -- the chip that any block holds is sized
   pub decoded-sized : IsBlock s → Sized (decode s)
   unfolding decode decodeControl pixelsIn

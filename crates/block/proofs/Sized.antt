@@ -1,20 +1,15 @@
--- What every chip that code holds has: each array its length, and each number its width. Assumes nothing.
+-- A chip of its sizes stays so where one part is changed. Assumes nothing.
 use mathlib.Core.Path.{_≡_}
 use mathlib.Core.Bool.{Bool}
 use mathlib.Core.List.{List}
 use Prim.Native.Nat.{ℕ, _^_, _<_}
-use lib.ListN.{length, getD, set, length-set}
+use lib.ListN.{length, set, length-set}
 use Rattle.lists.specs.Update.{update}
 use Rattle.lists.proofs.Updates.{update-all}
 use Rattle.chip.specs.declared.Control.{Control}
-use Rattle.chip.specs.declared.Chip.{Chip}
 use Rattle.chip.specs.Changes.{withParts}
 use Rattle.block.specs.Block.{pixelBytes}
-
--- n numbers, each below m
-pub record Listed (n m : ℕ) (l : List ℕ) : Type 0 where
-  pub long : length l ≡ n
-  pub fit : (j : ℕ) → getD l j 0 < m
+use Rattle.block.specs.Kept.{Listed, Sized}
 
 pub listed-set : {n m : ℕ} {l : List ℕ} → Listed n m l → (p y : ℕ) → y < m → Listed n m (set l p y)
 unfolding update
@@ -22,14 +17,6 @@ listed-set {n} {m} {l} k p y h = record {
   long = simp length-set (k .long);
   fit = update-all (λ v. v < m) 1 (λ i. p) (λ i was. y) l (λ i was hi hw. h) (k .fit);
 }
-
-pub record Sized (chip : Chip) : Type 0 where
-  pub pages-fit : chip .control .pages < 2 ^ 16
-  pub banks : Listed 4 (2 ^ 16) (chip .control .banks)
-  pub registers : Listed 7 (2 ^ 32) (chip .control .registers)
-  pub counter-fits : chip .control .counter < 2 ^ 32
-  pub tags : Listed 8 (2 ^ 32) (chip .control .tags)
-  pub pixels-long : length (chip .pixels) ≡ pixelBytes
 
 -- a sized chip with other arrays, flags and counter is sized where these are
 pub resized : {c : Control} {pixels : List ℕ} → Sized (record { control = c; pixels = pixels })

@@ -17,7 +17,7 @@ use Rattle.pixel.specs.Writes.{used, intoSlot, intoWord, hits, newByte, outcome
 use Rattle.pixel.proofs.Outcomes.{byte-outcome, taken-lt, into-slot-lt, into-word-lt}
 use Rattle.numbers.specs.Numbers.{first}
 use Rattle.numbers.proofs.Tests.{and-left, test-holds}
-use Rattle.lists.specs.Words.{putWord}
+use Rattle.lists.specs.Words.{Bytes, putWord}
 use Rattle.bank.specs.Work.{inSlot}
 use Rattle.lists.proofs.Words.{word-at-once, part-bytes}
 use Rattle.chip.specs.declared.Control.{Control}
@@ -46,7 +46,7 @@ unfolding inSlot
 beside slot a n = omega arith
 
 -- the outcome's word, put at once, is the definition's four bytes
-pub painted-word : (registers : List ℕ) (w : Write) (old slot : ℕ) (pixels : List ℕ) → ((a : ℕ) → getD pixels a 0 < 2 ^ 8)
+pub painted-word : (registers : List ℕ) (w : Write) (old slot : ℕ) (pixels : List ℕ) → Bytes pixels
     → putWord (inSlot slot (4 * intoWord registers w)) (outcomeOf registers w old (wordIn (slotByte pixels slot) (intoWord registers w)) .word) pixels
     ≡ painted registers w old (inSlot slot) pixels
 unfolding painted
@@ -75,7 +75,7 @@ held-hit {s} {c} {pixels} sets h =
 
 -- ---- all of it
 
-tag-lt : (s : List ℕ) → ((a : ℕ) → getD s a 0 < 2 ^ 8) → (slot : ℕ) → tagOf (decodeControl s) slot < 2 ^ 32
+tag-lt : (s : List ℕ) → Bytes s → (slot : ℕ) → tagOf (decodeControl s) slot < 2 ^ 32
 unfolding tagOf decodeControl
 tag-lt s bytes slot = words-lt s bytes 8 60 slot
 
@@ -108,7 +108,7 @@ unfolding effect reading outcomeOf
 write-gives s w dest = refl
 
 -- what it leaves of a well formed block
-module _ (s : List ℕ) (bytes : (a : ℕ) → getD s a 0 < 2 ^ 8) (well : wellFormedBlock s ≡ true) (w : Write) where
+module _ (s : List ℕ) (bytes : Bytes s) (well : wellFormedBlock s ≡ true) (w : Write) where
   abbrev registers : List ℕ
   registers = decodeControl s .registers
 

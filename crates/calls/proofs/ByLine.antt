@@ -2,10 +2,11 @@
 use mathlib.Core.Path.{_≡_, refl, sym, ap, _∙_}
 use mathlib.Core.Bool.{true, false}
 use mathlib.Core.List.{List}
-use Prim.Native.Nat.{ℕ, zero, suc, _^_, _<_, _≤_}
+use Prim.Native.Nat.{ℕ, zero, suc, _≤_}
 use lib.Dec.{eqb, leb}
-use lib.ListN.{length, getD}
+use lib.ListN.{length}
 use borrow.Author.Tests.{eq-eqb, le-leb, leb-true}
+use Rattle.lists.specs.Words.{Bytes}
 use Rattle.numbers.specs.Numbers.{first, whenDone}
 use Rattle.numbers.proofs.Tests.{and-left, and-right}
 use Rattle.layout.specs.Memory.{size}
@@ -32,17 +33,17 @@ ill-formed s memory x e = (rw e, rw e, rw e)
 
 -- a block that is well formed, and a memory of its size
 pub record Ready (s memory : List ℕ) : Type 0 where
-  pub bytes : (a : ℕ) → getD s a 0 < 2 ^ 8
+  pub bytes : Bytes s
   pub well : wellFormedBlock s ≡ true
   pub sized : length memory ≡ size (decodeControl s .pages)
 
 -- by the number that the definitions give
-refusal : (s memory : List ℕ) (x : Call) → ((a : ℕ) → getD s a 0 < 2 ^ 8) → wellFormedBlock s ≡ true
+refusal : (s memory : List ℕ) (x : Call) → Bytes s → wellFormedBlock s ≡ true
     → {k : ℕ} → number slots (decodeControl s) (length memory) x ≡ suc k → Comes s memory x (numbered (suc k)) s memory
 unfolding blockGiven blockAfter blockMemory callGiven givenWith chipOf chipWith memoryOf memoryWith decode
 refusal s memory x bytes well e = (rw (well, e), rw (well, e) (sym (unfold decode in encode-decode s bytes well)), rw (well, e))
 
-pub wrong-length : (s memory : List ℕ) (x : Call) → ((a : ℕ) → getD s a 0 < 2 ^ 8) → wellFormedBlock s ≡ true
+pub wrong-length : (s memory : List ℕ) (x : Call) → Bytes s → wellFormedBlock s ≡ true
     → eqb (length memory) (size (decodeControl s .pages)) ≡ false → Comes s memory x (numbered 2) s memory
 wrong-length s memory x bytes well e = refusal s memory x bytes well {k = 1} (unfold number first in rw (well-control s well, e))
 

@@ -115,6 +115,17 @@ fn write_back(drawn: Chip, memory: &mut [u8]) -> Chip {
     back
 }
 
+// Keeps the chip as a state block, as before a host stops, and reads it back over a chip that is not well formed.
+fn kept(chip: Chip) -> Chip {
+    let mut state = [0u8; block::places::BLOCK_BYTES];
+    let answer = hosts::kept::keep(chip, &mut state);
+    tell(b"keep", answer);
+    let back = hosts::kept::read(ill_formed(), &state);
+    let answer = back.answer;
+    tell(b"read", answer);
+    back.chip
+}
+
 // Page 1 is not below P, and the bank is open already.
 fn be_refused(chip: Chip, memory: &mut [u8]) {
     let control = chip.control;
@@ -148,5 +159,5 @@ fn main() {
     let loaded = load(fresh, &mut memory);
     let drawn = draw(loaded, &mut memory);
     let back = write_back(drawn, &mut memory);
-    be_refused(back, &mut memory);
+    be_refused(kept(back), &mut memory);
 }

@@ -11,7 +11,7 @@ use lib.Seq.{getD-append-seam, getD-append-add, take-add, drop-drop, drop-cons, 
 use Rattle.bits.specs.Bits.{byte}
 use Rattle.bits.proofs.Bytes.{join-bytes, byte-joined-0, byte-joined-1, byte-joined-2, byte-joined-3}
 use Rattle.lists.specs.Update.{update}
-use Rattle.lists.specs.Words.{halfAt, putHalf, wordAt, putWord, bytesFrom, asBytes, numbersAt, halves, words, halvesAt, wordsAt}
+use Rattle.lists.specs.Words.{Bytes, halfAt, putHalf, wordAt, putWord, bytesFrom, asBytes, numbersAt, halves, words, halvesAt, wordsAt}
 use Rattle.lists.proofs.Updates.{length-update, update-same, update-at}
 use Rattle.lists.proofs.Seams.{update-front, update-behind, startOf, put-in, split-at, start-long}
 use Rattle.lists.proofs.Words.{half-at-lt, word-at-lt}
@@ -149,7 +149,7 @@ all-lt w reads m s none lt zero p i = none
 all-lt w reads m s none lt (suc n) p zero = lt p
 all-lt w reads m s none lt (suc n) p (suc i) = all-lt w reads m s none lt n (p + w) i
 
-module _ (s : List ℕ) (fit : (a : ℕ) → getD s a 0 < 2 ^ 8) where
+module _ (s : List ℕ) (fit : Bytes s) where
   -- the first of the bytes from p on
   first : (p : ℕ) → p < length s → drop p s ≡ getD s p 0 ∷ drop (p + 1) s
   first p h = let e : p + 1 ≡ suc p = omega arith in rw e (drop-cons s p 0 h)

@@ -11,7 +11,7 @@ use lib.Seq.{getD-take, getD-drop}
 use Rattle.bits.specs.Bits.{byte, wordIn}
 use Rattle.bits.proofs.Bytes.{joined-lt, byte-word-in}
 use Rattle.lists.specs.Update.{update}
-use Rattle.lists.specs.Words.{halfAt, putHalf, wordAt, putWord}
+use Rattle.lists.specs.Words.{Bytes, halfAt, putHalf, wordAt, putWord}
 use Rattle.lists.proofs.Updates.{length-update, update-at, update-ext, update-more}
 
 -- the byte stores of code, one after the other
@@ -30,7 +30,7 @@ word-stores p x s h =
 
 -- ---- a number is its bytes
 
-module _ (s : List ℕ) (p : ℕ) (bytes : (a : ℕ) → getD s a 0 < 2 ^ 8) where
+module _ (s : List ℕ) (p : ℕ) (bytes : Bytes s) where
   pub half-at-lt : halfAt s p < 2 ^ 16
   unfolding halfAt
   half-at-lt = omega (arith, bytes p, bytes (p + 1))
@@ -45,13 +45,13 @@ module _ (s : List ℕ) (p : ℕ) (bytes : (a : ℕ) → getD s a 0 < 2 ^ 8) whe
   byte-word-at n h = rw (add-zero p, zero-add n) at (byte-word-in (λ i. getD s (p + i) 0) 0 n (λ i. bytes (p + i)) h)
 
 -- a part's bytes are bytes
-front-bytes : (n : ℕ) (l : List ℕ) → ((a : ℕ) → getD l a 0 < 2 ^ 8) → (a : ℕ) → getD (take n l) a 0 < 2 ^ 8
+front-bytes : (n : ℕ) (l : List ℕ) → Bytes l → (a : ℕ) → getD (take n l) a 0 < 2 ^ 8
 front-bytes zero l bytes a = lit< tt
 front-bytes (suc n) [] bytes a = lit< tt
 front-bytes (suc n) (x ∷ l) bytes zero = bytes 0
 front-bytes (suc n) (x ∷ l) bytes (suc a) = front-bytes n l (λ b. bytes (suc b)) a
 
-pub part-bytes : (k n : ℕ) (s : List ℕ) → ((a : ℕ) → getD s a 0 < 2 ^ 8) → (a : ℕ) → getD (take n (drop k s)) a 0 < 2 ^ 8
+pub part-bytes : (k n : ℕ) (s : List ℕ) → Bytes s → (a : ℕ) → getD (take n (drop k s)) a 0 < 2 ^ 8
 part-bytes k n s bytes = front-bytes n (drop k s) (λ a. rw (getD-drop k s a 0) (bytes (k + a)))
 
 -- a part's word is the whole's

@@ -1,9 +1,13 @@
 -- Numbers in a list of bytes, little endian: read at a place, put there, and one behind the other. Assumes nothing.
 use mathlib.Core.List.{List, [], _∷_, _++_}
-use Prim.Native.Nat.{ℕ, zero, suc, _+_, _*_, _^_}
+use Prim.Native.Nat.{ℕ, zero, suc, _+_, _*_, _^_, _<_}
 use lib.ListN.{getD}
 use Rattle.bits.specs.Bits.{byte, joined}
 use Rattle.lists.specs.Update.{update}
+
+-- a list of bytes
+abbrev pub Bytes : List ℕ → Type 0
+Bytes l = (a : ℕ) → getD l a 0 < 2 ^ 8
 
 -- ---- one number
 

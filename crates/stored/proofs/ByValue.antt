@@ -12,7 +12,7 @@ use Rattle.chip.specs.Refusals.{number}
 use Rattle.chip.specs.Calls.{givenWith, chipWith, memoryWith, callGiven, chipOf, memoryOf}
 use Rattle.block.specs.Block.{encode, decode}
 use Rattle.block.specs.OnBlock.{blockGiven, blockAfter, blockMemory}
-use Rattle.block.proofs.Sized.{Sized}
+use Rattle.block.specs.Kept.{Sized}
 use Rattle.block.proofs.RoundTrip.{decode-encode, encoded-well}
 use Rattle.stored.proofs.StaysSized.{stays-sized}
 

@@ -13,7 +13,7 @@ use Rattle.lists.proofs.RowStores.{sets-more, sets-whole}
 use Rattle.chip.specs.declared.Control.{Control}
 use Rattle.chip.specs.declared.Chip.{Chip}
 use Rattle.block.specs.Block.{banksAt, registersAt, flagsAt, tagsAt, pixelsAt, IsBlock, header, flags, controlParts, parts, encode}
-use Rattle.block.proofs.Sized.{Sized}
+use Rattle.block.specs.Kept.{Sized}
 use Rattle.block.proofs.Parts.{starts, length-encode}
 use Rattle.stored.specs.Laid.{laid}
 

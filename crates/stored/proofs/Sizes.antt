@@ -8,7 +8,7 @@ use denote.Struct.Declared.{row}
 use borrow.Author.Needs.{needs}
 use Rattle.chip.specs.declared.Chip.{Chip}
 use Rattle.chip.proofs.Chip.{the-type}
-use Rattle.block.proofs.Sized.{Sized}
+use Rattle.block.specs.Kept.{Sized}
 
 pub sized : (chip : Chip) (vs : List Val) → Is (row the-type) chip vs → Sized chip
 sized chip vs g = record {

@@ -12,7 +12,6 @@ use Rattle.bits.proofs.Laws.{word-lt}
 use Rattle.numbers.specs.Numbers.{whenDone}
 use Rattle.bank.specs.Work.{loaded}
 use Rattle.lists.proofs.Updates.{length-update}
-use Rattle.chip.specs.declared.Answered.{Answered}
 use Rattle.chip.specs.declared.Call.{Call}
 use Rattle.chip.specs.declared.Chip.{Chip}
 use Rattle.chip.specs.declared.Control.{Control}
@@ -24,7 +23,8 @@ use Rattle.chip.specs.Effects.{Reading, effect, pixelsAfter}
 use Rattle.chip.specs.Refusals.{number}
 use Rattle.chip.specs.Calls.{readIn, chipWith, chipOf}
 use Rattle.chip.proofs.Accepted.{accepted, page-range}
-use Rattle.block.proofs.Sized.{listed-set, Sized, resized}
+use Rattle.block.specs.Kept.{Sized}
+use Rattle.block.proofs.Sized.{listed-set, resized}
 
 -- ---- an operation that is done
 

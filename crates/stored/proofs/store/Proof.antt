@@ -2,7 +2,7 @@
 use native.Mathlib.Omega.{arith}
 use denote.Ref.{now}
 use borrow.Author.Needs.{needs}
-use Rattle.block.proofs.Sized.{Sized}
+use Rattle.block.specs.Kept.{Sized}
 use Rattle.stored.proofs.Sizes.{sized}
 use Rattle.stored.proofs.PartStores.{chip-stored}
 use Rattle.stored.proofs.store.Statement.{statement}
