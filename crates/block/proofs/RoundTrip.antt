@@ -15,6 +15,7 @@ use Rattle.numbers.proofs.Tests.{and-left, and-right}
 use Rattle.lists.specs.Words.{Bytes, halfAt, wordAt, numbersAt, halves, words, halvesAt, wordsAt}
 use Rattle.lists.proofs.Seams.{startOf, part-in, cut, total, cut-whole}
 use Rattle.lists.proofs.Words.{half-at-lt, word-at-lt}
+use Rattle.lists.proofs.Entries.{entry-holds}
 use Rattle.lists.proofs.Rows.{length-row-at, halves-in, words-in, halves-back, words-back, halves-lt, words-lt}
 use Rattle.chip.specs.declared.Control.{Control}
 use Rattle.chip.specs.declared.Chip.{Chip}
@@ -63,24 +64,13 @@ module _ (chip : Chip) (z : Sized chip) where
   -- each field of the header is of 16 bits
   header-fits : (j : ℕ) → getD (header (c .pages)) j 0 < 2 ^ 16
   unfolding header
-  header-fits zero = z .pages-fit
-  header-fits (suc j) = go j
-    where
-      go : (j : ℕ) → getD (8 ∷ banksAt ∷ registersAt ∷ flagsAt ∷ tagsAt ∷ pixelsAt ∷ blockBytes ∷ []) j 0 < 2 ^ 16
-      go zero = lit< tt
-      go (suc zero) = lit< tt
-      go (suc (suc zero)) = lit< tt
-      go (suc (suc (suc zero))) = lit< tt
-      go (suc (suc (suc (suc zero)))) = lit< tt
-      go (suc (suc (suc (suc (suc zero))))) = lit< tt
-      go (suc (suc (suc (suc (suc (suc zero)))))) = lit< tt
-      go (suc (suc (suc (suc (suc (suc (suc j))))))) = lit< tt
+  header-fits j = entry-holds (λ (x : ℕ). x < 2 ^ 16) (header (c .pages)) j 0 (lit< tt)
+      (z .pages-fit, (lit< tt, (lit< tt, (lit< tt, (lit< tt, (lit< tt, (lit< tt, (lit< tt, tt))))))))
 
   flags-fit : (j : ℕ) → getD (flags c ∷ c .counter ∷ []) j 0 < 2 ^ 32
   unfolding flags
-  flags-fit zero = lt-trans (flags-four (c .picking) (c .hit)) (lit< tt)
-  flags-fit (suc zero) = z .counter-fits
-  flags-fit (suc (suc j)) = lit< tt
+  flags-fit j = entry-holds (λ (x : ℕ). x < 2 ^ 32) (flags c ∷ c .counter ∷ []) j 0 (lit< tt)
+      (lt-trans (flags-four (c .picking) (c .hit)) (lit< tt), (z .counter-fits, tt))
 
   -- each part, read from its place
   header-back : halvesAt 8 (encode chip) 0 ≡ header (c .pages)

@@ -5,6 +5,7 @@ use mathlib.Core.List.{List, [], _∷_}
 use Prim.Native.Nat.{ℕ, zero, suc, _-_, _<_}
 use lib.Dec.{eqb, lit<}
 use lib.ListN.{length, getD}
+use Rattle.lists.proofs.Entries.{Each}
 use Rattle.numbers.specs.Numbers.{first, whenDone}
 use Rattle.chip.specs.declared.Answer.{Answer}
 use Rattle.chip.specs.declared.Answer.the-variants.{Done, Refused}
@@ -19,8 +20,7 @@ use Rattle.chip.specs.Promises.{NumbersGiven, RefusalChangesNothing}
 
 -- each number of a list of tests is below m
 abbrev Below : ℕ → List (ℕ × Bool) → Type 0
-Below m [] = Unit {0}
-Below m (x ∷ xs) = (x .0 < m) × Below m xs
+Below m tests = Each (λ (t : ℕ × Bool). t .0 < m) tests
 
 first-lt : (m : ℕ) (xs : List (ℕ × Bool)) → 0 < m → Below m xs → first xs < m
 unfolding first

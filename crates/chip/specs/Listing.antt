@@ -3,6 +3,7 @@ use mathlib.Core.Path.{_≡_}
 use mathlib.Core.List.{List, [], _∷_}
 use Prim.Native.Nat.{ℕ}
 use lib.ListN.{replicate}
+use Rattle.layout.specs.Memory.{size}
 use Rattle.chip.specs.declared.Call.{Call}
 use Rattle.chip.specs.Operations.{ask}
 use Rattle.chip.specs.State.{freshOf}
@@ -28,7 +29,7 @@ printed (g ∷ rest) = fourNumbers g ∷ printed rest
 
 -- P = 2, zero memory and a fresh chip
 unfoldable pub Listing : Type 0
-Listing = printed (givenEach (freshOf 2) (replicate 10240 0) listing)
+Listing = printed (givenEach (freshOf 2) (replicate (size 2) 0) listing)
     ≡ (0 ∷ 0 ∷ 0 ∷ 0 ∷ [])
     ∷ (0 ∷ 0 ∷ 0 ∷ 0 ∷ [])
     ∷ (0 ∷ 0 ∷ 1 ∷ 1 ∷ [])

@@ -1,7 +1,7 @@
 -- A call leaves each array of a chip its length and each number its width. Assumes nothing.
 use mathlib.Core.Path.{_≡_, refl}
 use mathlib.Core.Bool.{Bool, true, false, cond}
-use mathlib.Core.List.{List, [], _∷_}
+use mathlib.Core.List.{List, []}
 use Prim.Native.Nat.{ℕ, zero, suc, _+_, _-_, _%_, _^_, _<_}
 use native.Mathlib.Nat.{mod-lt, lt-trans}
 use lib.Bits.{bitOr, or-lt}
@@ -12,6 +12,7 @@ use Rattle.bits.proofs.Laws.{word-lt}
 use Rattle.numbers.specs.Numbers.{whenDone}
 use Rattle.bank.specs.Work.{loaded}
 use Rattle.lists.proofs.Updates.{length-update}
+use Rattle.lists.proofs.Entries.{entry-holds}
 use Rattle.chip.specs.declared.Call.{Call}
 use Rattle.chip.specs.declared.Chip.{Chip}
 use Rattle.chip.specs.declared.Control.{Control}
@@ -41,11 +42,6 @@ Word (writeTag replace slot tag) = tag < 2 ^ 32
 Word (writeRegister number value) = value < 2 ^ 32
 Word (readRegister number) = Unit {0}
 Word unknown = Unit {0}
-
--- that something holds of each line
-abbrev Each : (Operation × List ℕ → Type 0) → List (Operation × List ℕ) → Type 0
-Each Q [] = Unit {0}
-Each Q (x ∷ l) = Q x × Each Q l
 
 module _ (c : Control) (pixels memory : List ℕ) (read : Reading) (z : Sized (record { control = c; pixels = pixels })) where
   -- the counter advanced
@@ -82,16 +78,10 @@ module _ (c : Control) (pixels memory : List ℕ) (read : Reading) (z : Sized (r
 
 -- ---- a call
 
--- what holds of each line of a table, and where there is none, holds of the line read
-line-holds : (Q : Operation × List ℕ → Type 0) (l : List (Operation × List ℕ)) (i : ℕ) (d : Operation × List ℕ) → Q d → Each Q l → Q (getD l i d)
-line-holds Q [] i d none each = none
-line-holds Q (x ∷ l) zero d none each = each .0
-line-holds Q (x ∷ l) (suc i) d none each = line-holds Q l i d none (each .1)
-
 -- line by line of the table: the data is a tag at 12 and 13, and a register's value at 14
 word-given : (x : Call) → x .given < 2 ^ 32 → Word (operation x)
 unfolding operation row callTable
-word-given x h = line-holds (λ p. Word (p .0)) (callTable x) (x .op) (unknown, []) tt
+word-given x h = entry-holds (λ p. Word (p .0)) (callTable x) (x .op) (unknown, []) tt
     (tt, (tt, (tt, (tt, (tt, (tt, (tt, (tt, (tt, (tt, (tt, (tt, (h, (h, (h, (tt, tt))))))))))))))))
 
 -- done or refused

@@ -1,4 +1,4 @@
--- `bank::bank_start` meets its contract: the bank's start is the definition's, and the bank is within memory, by `bank-fits`. Assumes nothing.
+-- `bank::bank_start`: the bank's start is the definition's, and the bank is within memory, by `bank-fits`. Assumes nothing.
 use mathlib.Core.Path.{refl}
 use native.Mathlib.Omega.{arith}
 use Rattle.layout.specs.Memory.{size, bankStart}

@@ -1,4 +1,4 @@
--- `bank::copy_page_in` meets its contract: what was done on the lent part, by `copy-lent`. Assumes nothing.
+-- `bank::copy_page_in`: what was done on the lent part, by `copy-lent`. Assumes nothing.
 use native.Mathlib.Omega.{arith}
 use Rattle.bank.proofs.LentParts.{copy-lent}
 use borrow.Author.Needs.{needs}

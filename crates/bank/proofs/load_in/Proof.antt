@@ -1,4 +1,4 @@
--- `bank::load_in` meets its contract: what was read from the lent part, by `load-part`. Assumes nothing.
+-- `bank::load_in`: what was read from the lent part, by `load-part`. Assumes nothing.
 use Rattle.bank.proofs.LentParts.{load-part}
 use borrow.Author.Needs.{needs}
 use Rattle.bank.proofs.load_in.Statement.{statement}

@@ -1,4 +1,4 @@
--- `bank::tagged_bytes` meets its contract: the count of the tag's ones, by `tagged-ones`. Assumes nothing.
+-- `bank::tagged_bytes`: the count of the tag's ones, by `tagged-ones`. Assumes nothing.
 use Rattle.bank.proofs.Backs.{tagged-ones}
 use Rattle.bank.proofs.tagged_bytes.Statement.{statement}
 use Rattle.bank.proofs.tagged_bytes.Tie as tie

@@ -1,4 +1,4 @@
--- `bits::join` meets its contract: no sum or product wraps, as each byte is below 256. Assumes nothing.
+-- `bits::join`: no sum or product wraps, as each byte is below 256. Assumes nothing.
 use native.Mathlib.Omega.{arith}
 use Rattle.bits.specs.Bits.{joined}
 use borrow.Author.Needs.{needs}

@@ -1,4 +1,4 @@
--- `bits::within` meets its contract: the definition, as code computes it. Assumes nothing.
+-- `bits::within`: the definition, as code computes it. Assumes nothing.
 use borrow.Author.Needs.{needs}
 use Rattle.bits.specs.Bits.{within}
 use Rattle.bits.proofs.within.Statement.{statement}

@@ -1,4 +1,4 @@
--- `hostdemo::advanced` meets its contract: a walk of its MIR, by hand. The local that holds the chip is lent to `hosts::lent::call_on` for a
+-- `hostdemo::advanced`: a walk of its MIR, by hand. The local that holds the chip is lent to `hosts::lent::call_on` for a
 -- lifetime that begins and ends here, and comes back as the chip that the call leaves; the memory goes to the call for good. With 10 locals,
 -- local i stands at 2 · (9 − i) behind what a comment says stands in front, and at one less where _4 is lent and i < 4. Assumes nothing.
 use mathlib.Core.Path.{_≡_, refl, ap, subst}

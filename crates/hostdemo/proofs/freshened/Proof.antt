@@ -1,4 +1,4 @@
--- `hostdemo::freshened` meets its contract: a walk of its MIR, by hand. The local that holds the chip is lent to `hosts::lent::fresh_on` for a
+-- `hostdemo::freshened`: a walk of its MIR, by hand. The local that holds the chip is lent to `hosts::lent::fresh_on` for a
 -- lifetime that begins and ends here, and comes back as the chip that the call leaves. With 7 locals, local i stands at 2 · (6 − i) behind what a
 -- comment says stands in front, and at one less where _3 is lent and i < 3. Assumes nothing.
 use mathlib.Core.Path.{_≡_, refl, ap, subst}

@@ -1,4 +1,4 @@
--- `hostdemo::step` meets its contract: the chip and the memory are those that `advanced` leaves. Assumes nothing.
+-- `hostdemo::step`: the chip and the memory are those that `advanced` leaves. Assumes nothing.
 use borrow.Author.Needs.{needs}
 use Rattle.hostdemo.proofs.step.Statement.{statement}
 use Rattle.hostdemo.proofs.step.Tie as tie

@@ -1,4 +1,4 @@
--- `lists::half_at` meets its contract: the two bytes read are the definition's, joined. Assumes nothing.
+-- `lists::half_at`: the two bytes read are the definition's, joined. Assumes nothing.
 use borrow.Author.Needs.{needs}
 use Rattle.lists.specs.Words.{halfAt}
 use Rattle.lists.proofs.half_at.Statement.{statement}

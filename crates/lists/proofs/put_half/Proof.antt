@@ -1,4 +1,4 @@
--- `lists::put_half` meets its contract: its two stores are `half-stores`. Assumes nothing.
+-- `lists::put_half`: its two stores are `half-stores`. Assumes nothing.
 use borrow.Author.Needs.{needs}
 use denote.Ref.{now}
 use Rattle.lists.proofs.Words.{half-stores}

@@ -1,4 +1,4 @@
--- `lists::put_word` meets its contract: its four stores are `word-stores`. Assumes nothing.
+-- `lists::put_word`: its four stores are `word-stores`. Assumes nothing.
 use borrow.Author.Needs.{needs}
 use denote.Ref.{now}
 use native.Mathlib.Omega.{arith}

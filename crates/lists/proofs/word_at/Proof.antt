@@ -1,4 +1,4 @@
--- `lists::word_at` meets its contract: the four bytes read are the definition's, joined. Assumes nothing.
+-- `lists::word_at`: the four bytes read are the definition's, joined. Assumes nothing.
 use borrow.Author.Needs.{needs}
 use Rattle.lists.specs.Words.{wordAt}
 use Rattle.lists.proofs.word_at.Statement.{statement}

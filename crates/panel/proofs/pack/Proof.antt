@@ -1,4 +1,4 @@
--- `panel::pack` meets its contract. Assumes nothing.
+-- `panel::pack`: the value below the number's place, so the sum does not wrap. Assumes nothing.
 use Rattle.chip.specs.Answers.{packed}
 use native.Mathlib.Omega.{arith}
 use borrow.Author.Needs.{needs}

@@ -1,4 +1,4 @@
--- `panel::pack_done` meets its contract. Assumes nothing.
+-- `panel::pack_done`: value, pass and written each below the next one's place, so the sum does not wrap. Assumes nothing.
 use Rattle.chip.specs.Answers.{packed}
 use Rattle.bits.proofs.Laws.{digit-lt}
 use native.Mathlib.Omega.{arith}

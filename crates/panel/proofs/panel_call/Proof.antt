@@ -1,4 +1,4 @@
--- `panel::panel_call` meets its contract: the call on the block, and its answer packed. Assumes nothing.
+-- `panel::panel_call`: the call on the block, and its answer packed. Assumes nothing.
 use Rattle.block.specs.OnBlock.{callNumber}
 use Rattle.chip.specs.Answers.{numbered, givenBack, packed}
 use Rattle.chip.specs.declared.Answer.{Answer}

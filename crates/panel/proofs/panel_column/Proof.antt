@@ -1,4 +1,4 @@
--- `panel::panel_column` meets its contract. Assumes nothing.
+-- `panel::panel_column`: each case of the answer, packed, is what the definition gives. Assumes nothing.
 use Rattle.panel.proofs.Packings.{column-told}
 use mathlib.Core.Path.{_∙_}
 use borrow.Author.Needs.{needs}

@@ -1,4 +1,4 @@
--- `panel::panel_columns` meets its contract. Assumes nothing.
+-- `panel::panel_columns`: each case of the answer, packed; the buffer is what `fill` leaves. Assumes nothing.
 use Rattle.panel.proofs.Packings.{table-told}
 use mathlib.Core.Path.{_∙_}
 use borrow.Author.Needs.{needs}

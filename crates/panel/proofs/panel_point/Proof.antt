@@ -1,4 +1,4 @@
--- `panel::panel_point` meets its contract. Assumes nothing.
+-- `panel::panel_point`: each case of the answer, packed; a point that is given fits its places. Assumes nothing.
 use Rattle.panel.proofs.Packings.{point-told}
 use Rattle.panel.specs.Packs.{valued, pointValue}
 use Rattle.chip.specs.Answers.{packed}

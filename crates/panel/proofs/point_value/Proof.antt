@@ -1,4 +1,4 @@
--- `panel::point_value` meets its contract. Assumes nothing.
+-- `panel::point_value`: each number below the next one's place, so the sum does not wrap. Assumes nothing.
 use Rattle.panel.specs.Packs.{pointValue}
 use native.Mathlib.Omega.{arith}
 use borrow.Author.Needs.{needs}

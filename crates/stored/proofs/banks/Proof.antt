@@ -1,4 +1,4 @@
--- `stored::banks` meets its contract: the four open pages. Assumes nothing.
+-- `stored::banks`: the four open pages. Assumes nothing.
 use borrow.Author.Needs.{needs}
 use Rattle.chip.specs.State.{openPage}
 use Rattle.lists.specs.Words.{numbersAt}

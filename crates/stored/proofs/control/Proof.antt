@@ -1,4 +1,4 @@
--- `stored::control` meets its contract: each field, where it lies. Assumes nothing.
+-- `stored::control`: each field, where it lies. Assumes nothing.
 use borrow.Author.Needs.{needs}
 use Rattle.block.specs.Block.{decodeControl}
 use Rattle.stored.proofs.control.Statement.{statement}

@@ -1,4 +1,4 @@
--- `stored::header` meets its contract: the constant header with P put first. Assumes nothing.
+-- `stored::header`: the constant header with P put first. Assumes nothing.
 use mathlib.Core.Path.{refl}
 use borrow.Author.Needs.{needs}
 use Rattle.block.specs.Block.{header}

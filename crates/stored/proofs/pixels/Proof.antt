@@ -1,4 +1,4 @@
--- `stored::pixels` meets its contract. The loop's invariant: the first i pixels are in the array. Assumes nothing.
+-- `stored::pixels`, by the loop's invariant: the first i pixels are in the array. Assumes nothing.
 use mathlib.Core.List.{List}
 use mathlib.Core.Path.{_≡_, refl, sym, ap, ap₂, _∙_}
 use Prim.Native.Nat.{ℕ, _+_, _-_, _≤_, _<_}

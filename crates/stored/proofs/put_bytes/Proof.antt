@@ -1,4 +1,4 @@
--- `stored::put_bytes` meets its contract. The loop's invariant: the first i bytes are stored, by `Put`. Assumes nothing.
+-- `stored::put_bytes`, by the loop's invariant: the first i bytes are stored, by `Put`. Assumes nothing.
 use mathlib.Core.Path.{refl}
 use mathlib.Core.List.{List}
 use Prim.Native.Nat.{ℕ, _-_}

@@ -1,4 +1,4 @@
--- `stored::put_control` meets its contract: its parts, one behind the other. Assumes nothing.
+-- `stored::put_control`: its parts, one behind the other. Assumes nothing.
 use mathlib.Core.List.{List}
 use mathlib.Core.Path.{_≡_, sym, ap, _∙_}
 use native.Mathlib.Omega.{arith}

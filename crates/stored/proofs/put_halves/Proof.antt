@@ -1,4 +1,4 @@
--- `stored::put_halves` meets its contract. The loop's invariant: the first i numbers are stored, by `Put`. Assumes nothing.
+-- `stored::put_halves`, by the loop's invariant: the first i numbers are stored, by `Put`. Assumes nothing.
 use mathlib.Core.Path.{refl, _∙_}
 use Prim.Native.Nat.{_-_}
 use native.Mathlib.Omega.{arith}

@@ -1,4 +1,4 @@
--- `stored::read` meets its contract: both parts, where they lie. Assumes nothing.
+-- `stored::read`: both parts, where they lie. Assumes nothing.
 use borrow.Author.Needs.{needs}
 use Rattle.block.specs.Block.{decode}
 use Rattle.stored.proofs.read.Statement.{statement}

@@ -1,4 +1,4 @@
--- `stored::store` meets its contract: the pixels behind the control part. Assumes nothing.
+-- `stored::store`: the pixels behind the control part. Assumes nothing.
 use native.Mathlib.Omega.{arith}
 use denote.Ref.{now}
 use borrow.Author.Needs.{needs}

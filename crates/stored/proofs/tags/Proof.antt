@@ -1,4 +1,4 @@
--- `stored::tags` meets its contract: the eight tags. Assumes nothing.
+-- `stored::tags`: the eight tags. Assumes nothing.
 use borrow.Author.Needs.{needs}
 use Rattle.chip.specs.Changes.{tagOf}
 use Rattle.lists.specs.Words.{numbersAt}

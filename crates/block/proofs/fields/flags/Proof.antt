@@ -1,4 +1,4 @@
--- `block::fields::flags` meets its contract: picking in bit 0, hit in bit 1. Assumes nothing.
+-- `block::fields::flags`: picking in bit 0, hit in bit 1. Assumes nothing.
 use native.Mathlib.Omega.{arith}
 use borrow.Author.Needs.{needs}
 use Rattle.block.proofs.RoundTrip.{flags-four}

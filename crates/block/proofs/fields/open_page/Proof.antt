@@ -1,4 +1,4 @@
--- `block::fields::open_page` meets its contract: one of the four half words. Assumes nothing.
+-- `block::fields::open_page`: one of the four half words. Assumes nothing.
 use mathlib.Core.Path.{sym, _∙_}
 use borrow.Author.Needs.{needs}
 use Rattle.chip.specs.State.{openPage}

@@ -1,4 +1,4 @@
--- `block::fields::pages` meets its contract: the field, where it lies. Assumes nothing.
+-- `block::fields::pages`: the field, where it lies. Assumes nothing.
 use borrow.Author.Needs.{needs}
 use Rattle.block.specs.Block.{decodeControl}
 use Rattle.block.proofs.fields.pages.Statement.{statement}

@@ -1,4 +1,4 @@
--- `block::fields::picking` meets its contract: the field, where it lies. Assumes nothing.
+-- `block::fields::picking`: the field, where it lies. Assumes nothing.
 use borrow.Author.Needs.{needs}
 use Rattle.block.specs.Block.{decodeControl}
 use Rattle.block.proofs.fields.picking.Statement.{statement}

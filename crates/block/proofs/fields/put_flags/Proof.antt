@@ -1,4 +1,4 @@
--- `block::fields::put_flags` meets its contract: the flags, put where they lie. Assumes nothing.
+-- `block::fields::put_flags`: the flags, put where they lie. Assumes nothing.
 use borrow.Author.Needs.{needs}
 use Rattle.block.proofs.fields.put_flags.Statement.{statement}
 use Rattle.block.proofs.fields.put_flags.Tie as tie

@@ -1,4 +1,4 @@
--- `block::fields::put_register` meets its contract: registers are numbered from 1. Assumes nothing.
+-- `block::fields::put_register`: registers are numbered from 1. Assumes nothing.
 use mathlib.Core.Path.{_≡_, ap, _∙_}
 use Prim.Native.Nat.{ℕ, _+_, _-_, _*_}
 use native.Mathlib.Omega.{arith}

@@ -1,4 +1,4 @@
--- `block::fields::put_tag` meets its contract: the tag, put where it lies. Assumes nothing.
+-- `block::fields::put_tag`: the tag, put where it lies. Assumes nothing.
 use Rattle.block.specs.Block.{putTag}
 use borrow.Author.Needs.{needs}
 use Rattle.block.proofs.fields.put_tag.Statement.{statement}

@@ -1,4 +1,4 @@
--- `block::fields::register` meets its contract: one of the seven words. Assumes nothing.
+-- `block::fields::register`: one of the seven words. Assumes nothing.
 use mathlib.Core.Path.{_≡_, sym, ap, _∙_}
 use Prim.Native.Nat.{_+_, _-_, _*_}
 use native.Mathlib.Omega.{arith}

@@ -1,4 +1,4 @@
--- `block::fields::registers` meets its contract: the seven, by their numbers. Assumes nothing.
+-- `block::fields::registers`: the seven, by their numbers. Assumes nothing.
 use borrow.Author.Needs.{needs}
 use Rattle.pixel.specs.Registers.{register}
 use Rattle.lists.specs.Words.{numbersAt}

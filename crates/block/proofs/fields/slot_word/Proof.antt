@@ -1,4 +1,4 @@
--- `block::fields::slot_word` meets its contract: a word of the pixels, which start at 92. Assumes nothing.
+-- `block::fields::slot_word`: a word of the pixels, which start at 92. Assumes nothing.
 use mathlib.Core.Path.{_≡_, sym, ap, _∙_}
 use Prim.Native.Nat.{_+_, _*_}
 use native.Mathlib.Omega.{arith}

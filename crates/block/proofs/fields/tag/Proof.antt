@@ -1,4 +1,4 @@
--- `block::fields::tag` meets its contract: one of the eight words. Assumes nothing.
+-- `block::fields::tag`: one of the eight words. Assumes nothing.
 use mathlib.Core.Path.{sym, _∙_}
 use borrow.Author.Needs.{needs}
 use Rattle.chip.specs.Changes.{tagOf}

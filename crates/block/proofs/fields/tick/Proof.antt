@@ -1,4 +1,4 @@
--- `block::fields::tick` meets its contract: the sum wraps as the counter does. Assumes nothing.
+-- `block::fields::tick`: the sum wraps as the counter does. Assumes nothing.
 use borrow.Author.Needs.{needs}
 use Rattle.block.specs.Block.{tickedIn}
 use Rattle.block.proofs.fields.tick.Statement.{statement}

@@ -1,4 +1,4 @@
--- `block::form::banks_fit` meets its contract: each of the four open pages is tested. Assumes nothing.
+-- `block::form::banks_fit`: each of the four open pages is tested. Assumes nothing.
 use mathlib.Core.Bool.{Bool, true}
 use mathlib.Core.Path.{_≡_, sym, ap₂, _∙_}
 use Prim.Native.Nat.{ℕ}

@@ -1,4 +1,4 @@
--- `block::form::header_fits` meets its contract: a pair of fields is one word. Assumes nothing.
+-- `block::form::header_fits`: a pair of fields is one word. Assumes nothing.
 use mathlib.Core.Bool.{_&&_}
 use mathlib.Core.Path.{_≡_, sym, ap, _∙_}
 use Prim.Native.Nat.{ℕ}

@@ -1,4 +1,4 @@
--- `block::form::registers_fit` meets its contract: registers 1 to 4 hold any bits. Assumes nothing.
+-- `block::form::registers_fit`: registers 1 to 4 hold any bits. Assumes nothing.
 use mathlib.Core.Bool.{_&&_}
 use mathlib.Core.Path.{_≡_, sym, ap, _∙_}
 use Prim.Native.Nat.{ℕ}

@@ -1,4 +1,4 @@
--- `block::form::well_formed` meets its contract: the tests of the definition, in another order. Assumes nothing.
+-- `block::form::well_formed`: the tests of the definition, in another order. Assumes nothing.
 use mathlib.Core.List.{List}
 use mathlib.Core.Bool.{Bool, true, and-false, and-true}
 use mathlib.Core.Path.{_≡_, sym, ap, _∙_}

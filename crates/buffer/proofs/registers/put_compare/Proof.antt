@@ -1,4 +1,4 @@
--- `buffer::registers::put_compare` meets its contract: the register's word, then the flags' as the action bits switch them. Assumes nothing.
+-- `buffer::registers::put_compare`: the register's word, then the flags' as the action bits switch them. Assumes nothing.
 use borrow.Author.Needs.{needs}
 use Rattle.buffer.proofs.registers.put_compare.Statement.{statement}
 use Rattle.buffer.proofs.registers.put_compare.Tie as tie

@@ -1,4 +1,4 @@
--- `buffer::registers::read_register` meets its contract: it puts nothing, and its value is the register. Assumes nothing.
+-- `buffer::registers::read_register`: it puts nothing, and its value is the register. Assumes nothing.
 use mathlib.Core.Path.{refl, ap}
 use Prim.Native.Nat.{_≤_, ℕ}
 use native.Mathlib.Omega.{arith}

@@ -1,4 +1,4 @@
--- `buffer::registers::switched_by` meets its contract: a law for each way out. Assumes nothing.
+-- `buffer::registers::switched_by`: a law for each way out. Assumes nothing.
 use Rattle.buffer.proofs.Settings.{switched-low, switched-high}
 use Rattle.buffer.proofs.registers.switched_by.Statement.{statement}
 use Rattle.buffer.proofs.registers.switched_by.Tie as tie

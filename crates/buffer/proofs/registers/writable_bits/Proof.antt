@@ -1,4 +1,4 @@
--- `buffer::registers::writable_bits` meets its contract: each way out is one entry of `writable`, the first one four. Assumes nothing.
+-- `buffer::registers::writable_bits`: each way out is one entry of `writable`, the first one four. Assumes nothing.
 use mathlib.Core.Path.{_≡_}
 use native.Mathlib.Omega.{arith}
 use Rattle.chip.specs.State.{writable}

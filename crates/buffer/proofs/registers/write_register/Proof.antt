@@ -1,4 +1,4 @@
--- `buffer::registers::write_register` meets its contract: compare control's write puts the flags too, any other's its register alone. Assumes nothing.
+-- `buffer::registers::write_register`: compare control's write puts the flags too, any other's its register alone. Assumes nothing.
 use mathlib.Core.Bool.{false}
 use mathlib.Core.List.{List}
 use mathlib.Core.Path.{_≡_, sym, ap, _∙_}

@@ -1,4 +1,4 @@
--- `buffer::slots::data_read` meets its contract: it puts nothing, and its value is the word read. Assumes nothing.
+-- `buffer::slots::data_read`: it puts nothing, and its value is the word read. Assumes nothing.
 use mathlib.Core.Path.{refl, ap}
 use Prim.Native.Nat.{_<_}
 use native.Mathlib.Omega.{arith}

@@ -1,4 +1,4 @@
--- `buffer::slots::write_tag` meets its contract: it puts the tag, `replaced` says which. Assumes nothing.
+-- `buffer::slots::write_tag`: it puts the tag, `replaced` says which. Assumes nothing.
 use mathlib.Core.Bool.{Bool, true, false, cond}
 use mathlib.Core.Path.{_≡_, refl, ap, _∙_}
 use Prim.Native.Nat.{_<_, _^_, ℕ}

@@ -1,4 +1,4 @@
--- `buffer::writes::drawn` meets its contract: the outcome of the two words read. Assumes nothing.
+-- `buffer::writes::drawn`: the outcome of the two words read. Assumes nothing.
 use borrow.Author.Needs.{needs}
 use Rattle.buffer.proofs.writes.drawn.Statement.{statement}
 use Rattle.buffer.proofs.writes.drawn.Tie as tie

@@ -1,4 +1,4 @@
--- `buffer::writes::mark_hit` meets its contract: the flags are put, or the block stays. Assumes nothing.
+-- `buffer::writes::mark_hit`: the flags are put, or the block stays. Assumes nothing.
 use mathlib.Core.Bool.{Bool, true, false, _&&_}
 use mathlib.Core.Path.{_≡_, sym, ap, _∙_}
 use denote.Ref.{now}

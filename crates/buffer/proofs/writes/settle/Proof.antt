@@ -1,4 +1,4 @@
--- `buffer::writes::settle` meets its contract: what each call put, one in the other, is `settled`. Assumes nothing.
+-- `buffer::writes::settle`: what each call put, one in the other, is `settled`. Assumes nothing.
 use mathlib.Core.Path.{refl}
 use borrow.Author.Needs.{needs}
 use Rattle.own.specs.Own.{settled}

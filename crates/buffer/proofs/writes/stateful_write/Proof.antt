@@ -1,4 +1,4 @@
--- `buffer::writes::stateful_write` meets its contract: its outcome and its destination are those of the block's registers. Assumes nothing.
+-- `buffer::writes::stateful_write`: its outcome and its destination are those of the block's registers. Assumes nothing.
 use mathlib.Core.Bool.{false}
 use mathlib.Core.Path.{refl}
 use Prim.Native.Nat.{_<_}

@@ -1,4 +1,4 @@
--- `buffer::writes::stateless_write` meets its contract: its outcome is that of any registers, its destination that of its operands. Assumes nothing.
+-- `buffer::writes::stateless_write`: its outcome is that of any registers, its destination that of its operands. Assumes nothing.
 use mathlib.Core.Bool.{true}
 use mathlib.Core.Path.{refl, sym, ap, _∙_}
 use Prim.Native.Nat.{_<_}

@@ -1,4 +1,4 @@
--- `calls::acts::act` meets its contract. Assumes nothing.
+-- `calls::acts::act`: an ill-formed block and a memory of another length are refused by their tests; past both the call is its operation. Assumes nothing.
 use mathlib.Core.Bool.{true}
 use mathlib.Core.Path.{_≡_}
 use Prim.Native.Nat.{_*_}

@@ -1,4 +1,4 @@
--- `calls::value::perform` meets its contract: the stored chip, acted on and read back. Assumes nothing.
+-- `calls::value::perform`: the stored chip, acted on and read back. Assumes nothing.
 use mathlib.Core.List.{List}
 use mathlib.Core.Path.{ap, _∙_}
 use Prim.Native.Nat.{ℕ, _^_, _<_}

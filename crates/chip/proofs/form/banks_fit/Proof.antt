@@ -1,4 +1,4 @@
--- `chip::form::banks_fit` meets its contract: each of the four open pages is tested. Assumes nothing.
+-- `chip::form::banks_fit`: each of the four open pages is tested. Assumes nothing.
 use borrow.Author.Needs.{needs}
 use Rattle.bits.specs.Bits.{every}
 use Rattle.chip.specs.State.{openPage}

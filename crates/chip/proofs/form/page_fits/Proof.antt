@@ -1,4 +1,4 @@
--- `chip::form::page_fits` meets its contract: the sum wraps to 0 at 65535 alone. Assumes nothing.
+-- `chip::form::page_fits`: the sum wraps to 0 at 65535 alone. Assumes nothing.
 use mathlib.Core.Path.{ap, _∙_}
 use Prim.Native.Nat.{ℕ}
 use lib.Dec.{leb}

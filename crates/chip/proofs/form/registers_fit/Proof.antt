@@ -1,4 +1,4 @@
--- `chip::form::registers_fit` meets its contract: registers 1 to 4 hold any bits. Assumes nothing.
+-- `chip::form::registers_fit`: registers 1 to 4 hold any bits. Assumes nothing.
 use mathlib.Core.Path.{sym}
 use Prim.Native.Nat.{ℕ, _<_, _^_}
 use lib.ListN.{getD}

@@ -1,4 +1,4 @@
--- `chip::form::well_formed` meets its contract: the tests of the definition. Assumes nothing.
+-- `chip::form::well_formed`: the tests of the definition. Assumes nothing.
 use borrow.Author.Needs.{needs}
 use Rattle.chip.specs.State.{wellFormed}
 use Rattle.chip.proofs.form.well_formed.Statement.{statement}

@@ -1,4 +1,4 @@
--- `chip::fresh::fresh` meets its contract: each part is the definition's. Assumes nothing.
+-- `chip::fresh::fresh`: each part is the definition's. Assumes nothing.
 use mathlib.Core.Path.{refl}
 use Rattle.pixel.specs.Registers.{freshRegisters}
 use Rattle.chip.specs.State.{slots, closed, freshControl, freshWith, freshOf}

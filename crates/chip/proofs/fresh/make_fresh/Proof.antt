@@ -1,4 +1,4 @@
--- `chip::fresh::make_fresh` meets its contract: done exactly where P fits. Assumes nothing.
+-- `chip::fresh::make_fresh`: done exactly where P fits. Assumes nothing.
 use mathlib.Core.Path.{_≡_, refl}
 use mathlib.Core.Bool.{true}
 use native.Mathlib.Omega.{arith}

@@ -1,4 +1,4 @@
--- `columns::entries::column` meets its contract: the table's entry for x is the rule's. Assumes nothing.
+-- `columns::entries::column`: the table's entry for x is the rule's. Assumes nothing.
 use Prim.Native.Nat.{_<_}
 use native.Mathlib.Omega.{arith}
 use borrow.Author.Needs.{needs}

@@ -1,4 +1,4 @@
--- `columns::entries::fill` meets its contract. The loop's invariant: the buffer has 2,560 bytes, and the first two for each entry passed are the table's.
+-- `columns::entries::fill`, by the loop's invariant: the buffer has 2,560 bytes, and the first two for each entry passed are the table's.
 -- The measure is the number of entries left. Assumes nothing.
 use mathlib.Core.Path.{_≡_, refl, sym, ap, _∙_}
 use mathlib.Core.List.{List}

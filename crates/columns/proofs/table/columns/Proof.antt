@@ -1,4 +1,4 @@
--- `table::columns` meets its contract: the constant table is that of the rule, entry by entry, by computation. Assumes nothing.
+-- `table::columns`: the constant table is that of the rule, entry by entry, by computation. Assumes nothing.
 use mathlib.Core.Path.{refl}
 use Rattle.columns.specs.Columns.{table, columnEntry, columnTable}
 use Rattle.columns.proofs.table.columns.Statement.{statement}

@@ -1,4 +1,4 @@
--- `hosts::display::scan_line` meets its contract: of a well formed state the part is layout's, and otherwise it is empty. Assumes nothing.
+-- `hosts::display::scan_line`: of a well formed state the part is layout's, and otherwise it is empty. Assumes nothing.
 use mathlib.Core.Path.{ap, _∙_}
 use mathlib.Core.List.{[]}
 use Prim.Native.Nat.{ℕ}

@@ -1,4 +1,4 @@
--- `hosts::display::scan_line_number` meets its contract: of a well formed state the numbers are layout's. Assumes nothing.
+-- `hosts::display::scan_line_number`: of a well formed state the numbers are layout's. Assumes nothing.
 use mathlib.Core.Path.{_∙_}
 use borrow.Author.Needs.{needs}
 use Rattle.numbers.specs.Numbers.{first}

@@ -1,4 +1,4 @@
--- `hosts::lent::call_on` meets its contract: a walk of its MIR, by hand. The borrow of the chip is opened and the chip copied out; the memory goes
+-- `hosts::lent::call_on`: a walk of its MIR, by hand. The borrow of the chip is opened and the chip copied out; the memory goes
 -- to `calls::value::perform` at its own lifetime, share and name, for good; the chip that comes back is stored over the one lent, and the borrow is
 -- closed at it. With 8 locals, local i stands at 2 · (7 − i) behind what a comment says stands in front. Assumes nothing.
 use mathlib.Core.Path.{_≡_, refl, ap}

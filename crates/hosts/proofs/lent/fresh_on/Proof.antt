@@ -1,4 +1,4 @@
--- `hosts::lent::fresh_on` meets its contract: a walk of its MIR, by hand. The borrow of the chip is opened and the chip copied out for
+-- `hosts::lent::fresh_on`: a walk of its MIR, by hand. The borrow of the chip is opened and the chip copied out for
 -- `chip::fresh::make_fresh`; the chip that comes back is stored over the one lent, and the borrow is closed at it. With 5 locals, local i stands
 -- at 2 · (4 − i) behind what a comment says stands in front. Assumes nothing.
 use mathlib.Core.Path.{_≡_, refl, ap}

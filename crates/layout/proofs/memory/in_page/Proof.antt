@@ -1,4 +1,4 @@
--- `memory::in_page` meets its contract: it computes as the definition does. Assumes nothing.
+-- `memory::in_page`: it computes as the definition does. Assumes nothing.
 use mathlib.Core.Path.{refl}
 use native.Mathlib.Omega.{arith}
 use Rattle.layout.specs.Memory.{inPage, onLine, lineOf, columnOf}

@@ -1,4 +1,4 @@
--- `memory::line_number` meets its contract: each return has the number that the tests before it leave. Assumes nothing.
+-- `memory::line_number`: each return has the number that the tests before it leave. Assumes nothing.
 use mathlib.Core.Path.{_≡_}
 use mathlib.Core.Bool.{Bool, true, false, _&&_}
 use lib.Dec.{eqb, ltb}

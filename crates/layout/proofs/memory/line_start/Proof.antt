@@ -1,4 +1,4 @@
--- `memory::line_start` meets its contract: it computes as the definition does, and a scan line lies in memory. Assumes nothing.
+-- `memory::line_start`: it computes as the definition does, and a scan line lies in memory. Assumes nothing.
 use native.Mathlib.Omega.{arith}
 use borrow.Author.Needs.{needs}
 use Rattle.layout.specs.Memory.{size, bankStart, inBank, place, onLine, lineStart}

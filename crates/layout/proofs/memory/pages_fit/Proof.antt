@@ -1,4 +1,4 @@
--- `memory::pages_fit` meets its contract: its tests are the definition's. Assumes nothing.
+-- `memory::pages_fit`: its tests are the definition's. Assumes nothing.
 use mathlib.Core.Path.{refl}
 use Rattle.layout.specs.Memory.{pagesFit}
 use Rattle.layout.proofs.memory.pages_fit.Statement.{statement}

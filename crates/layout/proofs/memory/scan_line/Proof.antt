@@ -1,4 +1,4 @@
--- `memory::scan_line` meets its contract: where the number is 0, the 80 bytes lie in memory, and elsewhere the part is empty. Assumes nothing.
+-- `memory::scan_line`: where the number is 0, the 80 bytes lie in memory, and elsewhere the part is empty. Assumes nothing.
 use mathlib.Core.Path.{_≡_, sym, _∙_}
 use Prim.Native.Nat.{_+_, _-_, _≤_}
 use native.Mathlib.Omega.{arith}

@@ -1,4 +1,4 @@
--- `screen::bank_of` meets its contract: it computes as the definition does. Assumes nothing.
+-- `screen::bank_of`: it computes as the definition does. Assumes nothing.
 use mathlib.Core.Path.{refl}
 use native.Mathlib.Omega.{arith}
 use Rattle.layout.specs.Screen.{pointBank}

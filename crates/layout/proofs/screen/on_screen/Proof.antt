@@ -1,4 +1,4 @@
--- `screen::on_screen` meets its contract: its tests are the definition's, on the page that `page_of` ensures. Assumes nothing.
+-- `screen::on_screen`: its tests are the definition's, on the page that `page_of` ensures. Assumes nothing.
 use borrow.Author.Needs.{needs}
 use Rattle.layout.proofs.screen.on_screen.Statement.{statement}
 use Rattle.layout.proofs.screen.on_screen.Tie as tie

@@ -1,4 +1,4 @@
--- `screen::place_of` meets its contract: its fields are the definition's, by what `bank_of` and `page_of` ensure. Assumes nothing.
+-- `screen::place_of`: its fields are the definition's, by what `bank_of` and `page_of` ensure. Assumes nothing.
 use borrow.Author.Needs.{needs}
 use Rattle.layout.specs.Screen.{pointAt}
 use Rattle.layout.proofs.screen.place_of.Statement.{statement}

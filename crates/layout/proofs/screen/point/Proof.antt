@@ -1,4 +1,4 @@
--- `screen::point` meets its contract: each return has the case that the tests before it leave. Assumes nothing.
+-- `screen::point`: each return has the case that the tests before it leave. Assumes nothing.
 use borrow.Author.Needs.{needs}
 use Rattle.numbers.specs.Numbers.{first}
 use Rattle.layout.specs.Screen.{pointNumber, pointOf, pointGiven}

@@ -1,4 +1,4 @@
--- `lines::printer::put_digits` meets its contract: the last digit alone, or after those of the number's tenth. The measure is the number. Assumes nothing.
+-- `lines::printer::put_digits`: the last digit alone, or after those of the number's tenth. The measure is the number. Assumes nothing.
 use mathlib.Core.Path.{_≡_, ap, _∙_}
 use mathlib.Core.List.{[], _∷_}
 use Prim.Native.Nat.{ℕ, _+_, _/_, _%_, _^_, _≤_, _<_}

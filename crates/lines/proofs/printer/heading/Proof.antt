@@ -1,4 +1,4 @@
--- `lines::printer::heading` meets its contract, by computation. Assumes nothing.
+-- `lines::printer::heading`: by computation. Assumes nothing.
 use mathlib.Core.Path.{refl}
 use Rattle.lines.specs.Printing.{heading}
 use Rattle.lines.proofs.printer.heading.Statement.{statement}

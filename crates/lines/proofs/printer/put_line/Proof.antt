@@ -1,4 +1,4 @@
--- `lines::printer::put_line` meets its contract: four numbers, one after the other, each of at most 11 bytes with the byte that ends it. Assumes nothing.
+-- `lines::printer::put_line`: four numbers, one after the other, each of at most 11 bytes with the byte that ends it. Assumes nothing.
 use native.Mathlib.Omega.{arith}
 use borrow.Author.Needs.{needs}
 use Rattle.lines.specs.Printing.{printedLine}

@@ -1,4 +1,4 @@
--- `lines::printer::put_number` meets its contract: the digits, then the byte. Assumes nothing.
+-- `lines::printer::put_number`: the digits, then the byte. Assumes nothing.
 use native.Mathlib.Omega.{arith}
 use borrow.Author.Needs.{needs}
 use Rattle.lines.specs.Printing.{printedNumber}

@@ -1,4 +1,4 @@
--- `lines::reader::digit` meets its contract: each way out by the law of the tests that led there. Assumes nothing.
+-- `lines::reader::digit`: each way out by the law of the tests that led there. Assumes nothing.
 use borrow.Author.Needs.{needs}
 use native.Mathlib.Omega.{arith}
 use Rattle.lines.proofs.Steps.{digit-too-many, digit-too-much, digit-taken}

@@ -1,4 +1,4 @@
--- `lines::reader::finish` meets its contract: the definition's own test. Assumes nothing.
+-- `lines::reader::finish`: the definition's own test. Assumes nothing.
 use borrow.Author.Needs.{needs}
 use borrow.Author.Tests.{not-true, not-false}
 use Rattle.lines.specs.ByByte.{complete, ended}

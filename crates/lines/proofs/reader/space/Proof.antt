@@ -1,4 +1,4 @@
--- `lines::reader::space` meets its contract: each way out by the law of the tests that led there. Assumes nothing.
+-- `lines::reader::space`: each way out by the law of the tests that led there. Assumes nothing.
 use borrow.Author.Needs.{needs}
 use native.Mathlib.Omega.{arith}
 use Rattle.lines.proofs.Steps.{space-too-soon, space-too-late, space-ends}

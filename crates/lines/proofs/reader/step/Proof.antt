@@ -1,4 +1,4 @@
--- `lines::reader::step` meets its contract: a space, a byte below the digits, one above them, a digit. Assumes nothing.
+-- `lines::reader::step`: a space, a byte below the digits, one above them, a digit. Assumes nothing.
 use borrow.Author.Needs.{needs}
 use native.Mathlib.Omega.{arith}
 use Rattle.lines.proofs.Steps.{byte-space, byte-digit, byte-below, byte-above}

@@ -1,4 +1,4 @@
--- `own::operands::page_fits` meets its contract: all tests at once. Assumes nothing.
+-- `own::operands::page_fits`: all tests at once. Assumes nothing.
 use borrow.Author.Needs.{needs}
 use Rattle.own.proofs.operands.page_fits.Statement.{statement}
 use Rattle.own.proofs.operands.page_fits.Tie as tie

@@ -1,4 +1,4 @@
--- `own::operands::write_fits` meets its contract: all operands are listed. Assumes nothing.
+-- `own::operands::write_fits`: all operands are listed. Assumes nothing.
 use mathlib.Core.Bool.{and-true}
 use mathlib.Core.Path.{sym}
 use Rattle.own.proofs.operands.write_fits.Statement.{statement}

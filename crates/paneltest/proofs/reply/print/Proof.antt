@@ -1,4 +1,4 @@
--- `paneltest::reply::print` meets its contract: the four numbers of the answer, once it is known which it is. Assumes nothing.
+-- `paneltest::reply::print`: the four numbers of the answer, once it is known which it is. Assumes nothing.
 use borrow.Author.Needs.{needs}
 use Rattle.paneltest.proofs.Replies.{done-reply, refused-reply}
 use Rattle.paneltest.proofs.reply.print.Statement.{statement}

@@ -1,4 +1,4 @@
--- `paneltest::session::begin` meets its contract: a fresh chip, and no byte of a line. Assumes nothing.
+-- `paneltest::session::begin`: a fresh chip, and no byte of a line. Assumes nothing.
 use mathlib.Core.Path.{refl}
 use borrow.Author.Needs.{needs}
 use Rattle.layout.specs.Memory.{pagesFit}

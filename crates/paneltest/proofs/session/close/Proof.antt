@@ -1,4 +1,4 @@
--- `paneltest::session::close` meets its contract: a line that has begun, and none. Assumes nothing.
+-- `paneltest::session::close`: a line that has begun, and none. Assumes nothing.
 use mathlib.Core.Path.{refl}
 use borrow.Author.Needs.{needs}
 use denote.Ref.{now}

@@ -1,4 +1,4 @@
--- `paneltest::session::end_line` meets its contract: a line that is no call, and one that is. Assumes nothing.
+-- `paneltest::session::end_line`: a line that is no call, and one that is. Assumes nothing.
 use mathlib.Core.Path.{refl, sym, ap, _∙_}
 use borrow.Author.Needs.{needs}
 use Rattle.lines.specs.Lines.{parsedGiven}

@@ -1,4 +1,4 @@
--- `paneltest::session::run` meets its contract. The loop's invariant: what is left after i bytes is what the run over the first i leaves, and at most
+-- `paneltest::session::run`, by the loop's invariant: what is left after i bytes is what the run over the first i leaves, and at most
 -- 44 bytes are printed for each. The measure is what is left of the input. Assumes nothing.
 use mathlib.Core.Path.{_≡_, refl}
 use Prim.Native.Nat.{_-_, _*_, _≤_, _<_}

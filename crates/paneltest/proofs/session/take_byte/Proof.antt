@@ -1,4 +1,4 @@
--- `paneltest::session::take_byte` meets its contract: byte 10, and any other. Assumes nothing.
+-- `paneltest::session::take_byte`: byte 10, and any other. Assumes nothing.
 use mathlib.Core.Path.{refl}
 use native.Mathlib.Omega.{arith}
 use borrow.Author.Needs.{needs}

@@ -1,4 +1,4 @@
--- `pixel::into_slot` meets its contract: what the calls ensure, and `by-data-law`. Assumes nothing.
+-- `pixel::into_slot`: what the calls ensure, and `by-data-law`. Assumes nothing.
 -- (In what the check makes, the array of registers is `t1`.)
 use Rattle.pixel.specs.Registers.{register}
 use Rattle.pixel.specs.Writes.{intoSlot}

@@ -1,4 +1,4 @@
--- `pixel::into_word` meets its contract: what the calls ensure, and `by-data-law`. Assumes nothing.
+-- `pixel::into_word`: what the calls ensure, and `by-data-law`. Assumes nothing.
 -- (In what the check makes, the array of registers is `t1`.)
 use Rattle.pixel.specs.Registers.{register}
 use Rattle.pixel.specs.Writes.{intoWord}

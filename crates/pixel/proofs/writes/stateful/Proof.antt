@@ -1,4 +1,4 @@
--- `pixel::stateful` meets its contract: what the calls ensure, from the last to the first, and `stateful-law`. Assumes nothing.
+-- `pixel::stateful`: what the calls ensure, from the last to the first, and `stateful-law`. Assumes nothing.
 -- (In what the check makes, the array of registers is `t1`.)
 use mathlib.Core.Path.{sym}
 use Rattle.pixel.specs.Pixel.{enabledBy}

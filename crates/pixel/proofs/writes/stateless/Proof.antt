@@ -1,4 +1,4 @@
--- `pixel::stateless` meets its contract: `stateless-law`, whatever the registers and OLD are. Assumes nothing.
+-- `pixel::stateless`: `stateless-law`, whatever the registers and OLD are. Assumes nothing.
 use mathlib.Core.Path.{sym}
 use Rattle.pixel.proofs.Outcomes.{stateless-law}
 use borrow.Author.Needs.{needs}
