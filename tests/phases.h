@@ -8,10 +8,11 @@
 /* Document 01's examples, with the numbers that it prints. */
 void try_examples(void);
 
-/* Every screen point and those just outside, the column table, every scan line. */
+/* Every screen point and those just outside, the column table, every scan line; those of the first and the last page alone. */
 void try_points(void);
 void try_columns(void);
 void try_scan_lines(uint32_t pages);
+void try_last_lines(uint32_t pages);
 
 /* Operands at and past their edges, wrong lengths, damaged blocks, fresh chips. */
 void try_edges(uint32_t pages);
