@@ -110,6 +110,8 @@ int main(int argc, char **argv)
     say("screen points, all of them, and the column table", 0, seed);
     try_points();
     try_columns();
+    say("what demand 3 leaves to the program", 0, seed);
+    try_duties();
     try_each_size(seed, count);
     try_sizes(seed, count);
     bool tried = tried_all(), drew = drew_all();

@@ -26,6 +26,9 @@ void try_random(uint32_t pages, uint64_t seed, unsigned long calls);
 /* Random calls that keep demand 3's premises: library against the flat picture. */
 void try_pictures(uint32_t pages, uint64_t seed, unsigned long calls);
 
+/* Each premise of demand 3 broken by itself: the calls are done, and memory is not the flat picture. */
+void try_duties(void);
+
 /* What the pictures drew with; false where something was never used. */
 bool drew_all(void);
 
