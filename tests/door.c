@@ -107,6 +107,8 @@ int main(int argc, char **argv)
     printf("door: seed %" PRIu64 ", %lu random calls for a size\n", seed, count);
     say("examples of document 01", 0, seed);
     try_examples();
+    say("sentences of document 01", 0, seed);
+    try_sentences();
     say("screen points, all of them, and the column table", 0, seed);
     try_points();
     try_columns();

@@ -8,6 +8,9 @@
 /* Document 01's examples, with the numbers that it prints. */
 void try_examples(void);
 
+/* Its sentences that no example shows, by their numbers in docs/TRACE.md. */
+void try_sentences(void);
+
 /* Every screen point and those just outside, the column table, every scan line; those of the first and the last page alone. */
 void try_points(void);
 void try_columns(void);
