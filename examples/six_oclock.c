@@ -5,6 +5,7 @@
  * version are made on purpose: a slot that was loaded before the operator's mark is written back after it. Refused, or written
  * back under the server's planes, it leaves every mark. Written back unmasked it overwrites them: the chip does as it is told, and
  * that no slot is written back over newer bytes is the drawing program's duty (docs/DUTIES.md). */
+#include <errno.h>
 #include <stdio.h>
 #include <stdlib.h>
 #include <string.h>
@@ -222,7 +223,7 @@ static void save_picture(const struct surface *s, const char *path)
     unsigned long lines = show(s, picture);
     make_colours(colours);
     if (!png_write(path, PANEL_SCREEN_WIDTH, PANEL_SCREEN_HEIGHT, picture, colours)) {
-        fprintf(stderr, "%s cannot be written\n", path);
+        fprintf(stderr, "%s cannot be written: %s\n", path, strerror(errno));
         exit(1);
     }
     free(picture);
