@@ -1,6 +1,7 @@
 /* png.c: a PNG file, uncompressed; see png.h. A PNG is a list of chunks: length, name, bytes, CRC-32. */
 #include "png.h"
 
+#include <errno.h>
 #include <stdio.h>
 #include <stdlib.h>
 #include <string.h>
@@ -96,12 +97,18 @@ bool png_write(const char *path, uint32_t width, uint32_t height, const uint8_t 
     uint8_t *raw = malloc(len), *packed = malloc(len + len / STORED_MAX * 5 + 16);
     FILE *file = raw != NULL && packed != NULL ? fopen(path, "wb") : NULL;
     bool written = file != NULL;
+    int reason = errno;
     if (written) {
         chunks(file, width, height, pixels, colours, raw, packed);
         written = !ferror(file);
-        written = fclose(file) == 0 && written;
+        reason = errno;
+        if (fclose(file) != 0 && written) {
+            written = false;
+            reason = errno;
+        }
     }
     free(raw);
     free(packed);
+    errno = reason;
     return written;
 }

@@ -2,7 +2,10 @@
  *
  * The server draws the day's curves in planes 0 to 5 of each pixel, the operator acknowledges in planes 6 and 7. The display
  * reads scan lines; the picture is left as six_oclock.png (or the file named as argument). Then the mistakes of the trial
- * version are made on purpose: a slot that was loaded before the operator's mark is written back after it. */
+ * version are made on purpose: a slot that was loaded before the operator's mark is written back after it. Refused, or written
+ * back under the server's planes, it leaves every mark. Written back unmasked it overwrites them: the chip does as it is told, and
+ * that no slot is written back over newer bytes is the drawing program's duty (docs/DUTIES.md). */
+#include <errno.h>
 #include <stdio.h>
 #include <stdlib.h>
 #include <string.h>
@@ -220,7 +223,7 @@ static void save_picture(const struct surface *s, const char *path)
     unsigned long lines = show(s, picture);
     make_colours(colours);
     if (!png_write(path, PANEL_SCREEN_WIDTH, PANEL_SCREEN_HEIGHT, picture, colours)) {
-        fprintf(stderr, "%s cannot be written\n", path);
+        fprintf(stderr, "%s cannot be written: %s\n", path, strerror(errno));
         exit(1);
     }
     free(picture);
@@ -241,16 +244,22 @@ static struct place ring_place(void)
                           panel_block_at(panel_point_line(at), panel_point_column(at))};
 }
 
+/* Writes a slot's own words over all of it, so that each of its bytes is tagged. */
+static void write_all(struct surface *s, uint32_t slot)
+{
+    for (uint32_t word = 0; word < PANEL_WORDS; word++) {
+        uint32_t old = surface_call(s, PANEL_DATA_READ, slot, word, 0, 0, 0, "data read");
+        surface_call(s, PANEL_STATEFUL_WRITE, slot, word, PANEL_ALL_BYTES, PANEL_PASS_IN, old, "data write");
+    }
+}
+
 /* Before the mark: the server loads the block twice, and writes its own picture again over all of one slot. */
 static void hold_stale(struct surface *s, struct place p)
 {
     surface_open(s, p.bank, p.page);
     surface_call(s, PANEL_READ_BLOCK, p.bank, p.block, STALE_UNTOUCHED, 0, 0, "load");
     surface_call(s, PANEL_READ_BLOCK, p.bank, p.block, STALE_WRITTEN, 0, 0, "load");
-    for (uint32_t word = 0; word < PANEL_WORDS; word++) {
-        uint32_t old = surface_call(s, PANEL_DATA_READ, STALE_WRITTEN, word, 0, 0, 0, "data read");
-        surface_call(s, PANEL_STATEFUL_WRITE, STALE_WRITTEN, word, PANEL_ALL_BYTES, PANEL_PASS_IN, old, "data write");
-    }
+    write_all(s, STALE_WRITTEN);
 }
 
 static unsigned marked_bytes(const uint8_t *memory, size_t len)
@@ -281,11 +290,10 @@ static void must_be(bool fact, const char *what)
     }
 }
 
-/* After the mark: both slots go back. Not a byte of memory may change. */
-static void write_stale_back(struct surface *s, struct place p)
+/* After the mark: both slots go back, and one that is loaded anew. Not a byte of memory may change. */
+static void write_back_after(struct surface *s, struct place p, unsigned marks)
 {
     uint8_t *before = memcpy(room_for(memory_len), s->memory, memory_len);
-    unsigned marks = marked_in(s, p);
     must_be(marks > 0, "the operator's ring crosses the block");
     surface_planes(s, SERVER_PLANES);
     uint64_t refused =
@@ -303,8 +311,34 @@ static void write_stale_back(struct surface *s, struct place p)
     uint32_t untouched = surface_call(s, PANEL_UNMASKED_WRITE, p.bank, p.block, STALE_UNTOUCHED, 0, 0, "write-back");
     must_be(untouched == 0 && memcmp(before, s->memory, memory_len) == 0, "an untagged slot writes nothing back");
     printf("   a stale slot that nothing was written to, written back unmasked: %u bytes, every mark stands\n", untouched);
-    surface_settle(s);
+
+    surface_call(s, PANEL_READ_BLOCK, p.bank, p.block, STALE_UNTOUCHED, 0, 0, "load");
+    write_all(s, STALE_UNTOUCHED);
+    uint32_t anew = surface_call(s, PANEL_UNMASKED_WRITE, p.bank, p.block, STALE_UNTOUCHED, 0, 0, "write-back");
+    must_be(anew == PANEL_BLOCK_BYTES && memcmp(before, s->memory, memory_len) == 0,
+            "a slot that was loaded after the mark has the mark, and writes it back");
+    printf("   a slot loaded after the mark, written all over and written back unmasked: %u bytes, every mark stands\n", anew);
     free(before);
+}
+
+/* What the chip does not prevent: the stale slot has the bytes from before the mark in all planes, and no mask holds them off. */
+static void lose_marks(struct surface *s, struct place p, unsigned marks)
+{
+    uint32_t written = surface_call(s, PANEL_UNMASKED_WRITE, p.bank, p.block, STALE_WRITTEN, 0, 0, "write-back");
+    unsigned left = marked_in(s, p);
+    must_be(left < marks, "an unmasked write-back of a stale slot overwrites the mark");
+    printf(
+        "   NOT PREVENTED: a slot loaded before the mark, written back unmasked: done, %u bytes, %u of %u marked ones lost.\n"
+        "   That no two slots stand for one block is the program's duty: docs/DUTIES.md, D-03\n",
+        written, marks - left, marks);
+}
+
+static void write_stale_back(struct surface *s, struct place p)
+{
+    unsigned marks = marked_in(s, p);
+    write_back_after(s, p, marks);
+    lose_marks(s, p, marks);
+    surface_settle(s);
 }
 
 /* ---- The story ---- */

@@ -9,25 +9,10 @@ static const size_t memory_len = PANEL_MEMORY_BYTES(SURFACE_PAGES);
 
 /* ---- Checked answers ---- */
 
-static const char *refusal(uint32_t number)
-{
-    switch (number) {
-    case PANEL_ILL_FORMED: return "the state block is not well formed";
-    case PANEL_MEMORY_LENGTH: return "memory has the wrong length";
-    case PANEL_NO_OPERATION: return "no such operation";
-    case PANEL_OUT_OF_RANGE: return "an operand is out of range";
-    case PANEL_REGISTER_BITS: return "the register has no such bit";
-    case PANEL_BANK_OPEN: return "the bank is open";
-    case PANEL_BANK_CLOSED: return "the bank is closed";
-    case PANEL_NO_POINT: return "no such point";
-    default: return "unknown";
-    }
-}
-
 uint32_t done(uint64_t answer, const char *what)
 {
     if (panel_number(answer) != PANEL_DONE) {
-        fprintf(stderr, "%s was refused: %s (%u)\n", what, refusal(panel_number(answer)), panel_number(answer));
+        fprintf(stderr, "%s was refused: %s (%u)\n", what, panel_number_text(panel_number(answer)), panel_number(answer));
         exit(1);
     }
     return panel_value(answer);

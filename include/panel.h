@@ -9,8 +9,15 @@
  *   4. write the slot back       PANEL_MASKED_WRITE   bank, block, slot; then PANEL_PRECHARGE closes the page
  *
  * The program owns all bytes. It lends two buffers with every call, the state block and the memory; the library keeps
- * nothing of its own, so any number of chips can be used side by side. The two buffers must not overlap, and no two threads
- * may use one chip at the same time.
+ * nothing of its own, so any number of chips can be used side by side.
+ *
+ * What a caller owes. The library cannot test these; all else it tests, and answers by a number.
+ *   - A pointer is not null, and points to as many bytes as the length beside it says, also where the call will be refused.
+ *   - State block, memory and column table do not overlap. They need no alignment.
+ *   - Nobody else writes them while a call runs: no two threads use one chip at the same time.
+ *   - Between calls the bytes stay as they are. Memory may be read at any time; what else may be done with it, and which calls
+ *     lose no one's drawing, is in docs/DUTIES.md.
+ *   - This header is read as C99 or later, or as C++98 or later with <stdint.h>, and linked on x86-64 Linux.
  *
  * Every function answers one 64-bit number; panel_number, panel_value, panel_pass and panel_written take it apart. Look at
  * panel_number first: PANEL_DONE, or the reason of a refusal. A refused call has changed nothing, and its value is 0. */
@@ -23,6 +30,12 @@
 #ifdef __cplusplus
 extern "C" {
 #endif
+
+/* ---- Version: the major number is raised by each growth of the state block, and by all else that a caller must follow; the
+ * minor one by what is added beside. A library whose block has another length refuses this header's with PANEL_ILL_FORMED. ---- */
+
+#define PANEL_VERSION_MAJOR 1
+#define PANEL_VERSION_MINOR 0
 
 /* ---- Sizes ---- */
 
@@ -45,7 +58,7 @@ extern "C" {
 #define PANEL_MEMORY_BYTES(pages) ((size_t)PANEL_BANKS * PANEL_PAGE_BYTES * (size_t)(pages))
 
 /* ---- Operations of panel_call: its op, with the operands that it takes ----
- * Banks are 0 to 3, pages 0 up to the chip's pages, blocks 0 to 39, slots 0 to 7, words 0 to 7, registers 1 to 7. Operands
+ * Banks are 0 to 3, pages 0 to P - 1 on a chip of P pages in a bank, blocks 0 to 39, slots 0 to 7, words 0 to 7, registers 1 to 7. Operands
  * that are not named must be 0, and so must data where it is not named. */
 
 enum panel_operation {
@@ -204,6 +217,23 @@ static inline uint32_t panel_value(uint64_t answer) { return (uint32_t)answer; }
 static inline int panel_pass(uint64_t answer) { return (int)(answer >> 32) & 1; }
 static inline int panel_written(uint64_t answer) { return (int)(answer >> 33) & 1; }
 
+/* A number in words, for messages. */
+static inline const char *panel_number_text(uint32_t number)
+{
+    switch (number) {
+    case PANEL_DONE: return "done";
+    case PANEL_ILL_FORMED: return "the state block is not a chip's state";
+    case PANEL_MEMORY_LENGTH: return "memory has the wrong length";
+    case PANEL_NO_OPERATION: return "no such operation";
+    case PANEL_OUT_OF_RANGE: return "an operand is out of range, or one that is not used is not 0";
+    case PANEL_REGISTER_BITS: return "the register has no such bit";
+    case PANEL_BANK_OPEN: return "the bank is open";
+    case PANEL_BANK_CLOSED: return "the bank is closed";
+    case PANEL_NO_POINT: return "no such screen point on this chip";
+    default: return "no number of the library";
+    }
+}
+
 /* Of panel_point's value: */
 static inline uint32_t panel_point_bank(uint32_t value) { return value >> 28; }
 static inline uint32_t panel_point_page(uint32_t value) { return value >> 16 & 0xFFFu; }
@@ -216,7 +246,8 @@ static inline uint32_t panel_word_at(uint32_t line, uint32_t column) { return 2 
 static inline uint32_t panel_byte_at(uint32_t column) { return column % 4; }
 
 /* Of the column table: entry x, and the parts of an entry. Point (x, y) lies in bank 2 * (y mod 32 div 16) + side, page
- * 8 * (y div 32) + group, line y mod 16, column. */
+ * 8 * (y div 32) + group, line y mod 16, column. x must be below PANEL_SCREEN_WIDTH: it is not tested, and any other x reads
+ * outside the table. */
 static inline uint32_t panel_table_entry(const uint8_t *table, uint32_t x)
 {
     return table[2 * x] | (uint32_t)table[2 * x + 1] << 8;
@@ -225,7 +256,7 @@ static inline uint32_t panel_column_side(uint32_t entry) { return entry >> 10; }
 static inline uint32_t panel_column_group(uint32_t entry) { return entry >> 7 & 7u; }
 static inline uint32_t panel_column_column(uint32_t entry) { return entry & 127u; }
 
-/* Of the state block: */
+/* Of the state block; a bank is 0 to 3, and is not tested: */
 static inline int panel_picking(const uint8_t *state) { return state[PANEL_AT_FLAGS] & 1; }
 static inline int panel_hit(const uint8_t *state) { return state[PANEL_AT_FLAGS] >> 1 & 1; }
 static inline uint32_t panel_open_page(const uint8_t *state, uint32_t bank) /* or PANEL_CLOSED */

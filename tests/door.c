@@ -1,7 +1,7 @@
 /* door.c: the C door from outside. The library is compared with the model (plain C, from document 01) and with the flat
  * picture of demand 3, over examples, edges, damage and random calls.
  *
- *     door [SEED [COUNT]]     SEED: any number, 1 if not given; COUNT: random calls for each of four sizes, 2,000,000 if not
+ *     door [SEED [COUNT]]     SEED: any number, 1 if not given; COUNT: random calls for a size, 2,000,000 if not
  *
  * The same seed and count make the same calls on every machine. Exit status 0: no difference, and every number that can be
  * given was given by every call that can give it. 1: a difference, reported, or something that was never tried. */
@@ -13,8 +13,14 @@
 #include "pair.h"
 #include "phases.h"
 
-static const uint32_t sizes[] = {1, 2, 9, 257};
-enum { SIZES = 4 };
+/* The sizes that everything is tried on, with the part of COUNT that each gets: 256 pages are the whole screen, 257 the most. */
+static const struct {
+    uint32_t pages, part;
+} sizes[] = {{1, 2}, {2, 1}, {9, 2}, {255, 4}, {256, 2}, {257, 2}};
+enum { SIZES = sizeof sizes / sizeof *sizes };
+
+/* The part of COUNT that every size gets beside. */
+enum { PART_OF_EACH = 1000 };
 
 static void say(const char *what, uint32_t pages, uint64_t seed)
 {
@@ -62,10 +68,23 @@ void try_random(uint32_t pages, uint64_t seed, unsigned long calls)
 
 /* ---- The whole test ---- */
 
+/* Each size that a chip can have, briefly: a mistake may be made at one size alone. */
 static void try_each_size(uint64_t seed, unsigned long count)
 {
+    say("each size from 1 to 257", 0, seed);
+    for (uint32_t pages = 1; pages <= 257; pages++) {
+        try_fresh(pages);
+        try_last_lines(pages);
+        try_random(pages, seed + pages, count / PART_OF_EACH);
+        try_pictures(pages, seed + pages, count / PART_OF_EACH);
+    }
+}
+
+static void try_sizes(uint64_t seed, unsigned long count)
+{
     for (int i = 0; i < SIZES; i++) {
-        uint32_t pages = sizes[i];
+        uint32_t pages = sizes[i].pages;
+        unsigned long calls = count / sizes[i].part;
         say("fresh chips, edges and lengths", pages, seed);
         try_fresh(pages);
         try_edges(pages);
@@ -75,9 +94,9 @@ static void try_each_size(uint64_t seed, unsigned long count)
         say("scan lines", pages, seed);
         try_scan_lines(pages);
         say("random calls", pages, seed);
-        try_random(pages, seed, count);
+        try_random(pages, seed, calls);
         say("pictures", pages, seed);
-        try_pictures(pages, seed, count);
+        try_pictures(pages, seed, calls);
     }
 }
 
@@ -85,13 +104,18 @@ int main(int argc, char **argv)
 {
     uint64_t seed = argc > 1 ? strtoull(argv[1], NULL, 10) : 1;
     unsigned long count = argc > 2 ? strtoul(argv[2], NULL, 10) : 2000000;
-    printf("door: seed %" PRIu64 ", %lu random calls for each size\n", seed, count);
+    printf("door: seed %" PRIu64 ", %lu random calls for a size\n", seed, count);
     say("examples of document 01", 0, seed);
     try_examples();
+    say("sentences of document 01", 0, seed);
+    try_sentences();
     say("screen points, all of them, and the column table", 0, seed);
     try_points();
     try_columns();
+    say("what demand 3 leaves to the program", 0, seed);
+    try_duties();
     try_each_size(seed, count);
+    try_sizes(seed, count);
     bool tried = tried_all(), drew = drew_all();
     if (!tried || !drew) {
         printf("\nnot everything was tried: see the 0s above\n");

@@ -94,6 +94,8 @@ uint32_t draw_register(struct source *from, const uint8_t *state, uint32_t numbe
 
 void draw_state(struct source *from, uint8_t *state, uint32_t pages)
 {
+    /* where the counter's bytes carry, and where it ends */
+    static const uint32_t carries[] = {0x100, 0x10000, 0x01000000, 0x80000000, 0, 0};
     model_fresh(state, MODEL_STATE, pages);
     for (uint32_t bank = 0; bank < 4; bank++)
         if (!one_in(from, 3))
@@ -103,7 +105,7 @@ void draw_state(struct source *from, uint8_t *state, uint32_t pages)
         put32(state + 24 + 4 * (number - 1),
               draw_register(from, state, number, false) & (number == 6 ? 0x00030707 : 0xFFFFFFFF));
     put32(state + 52, below(from, 4));
-    put32(state + 56, one_in(from, 2) ? draw32(from) : 0xFFFFFFFF - below(from, 64));
+    put32(state + 56, one_in(from, 2) ? draw32(from) : PICK(from, carries) - 1 - below(from, 64));
 }
 
 /* ---- Calls ---- */

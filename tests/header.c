@@ -20,6 +20,8 @@ static void same(const char *what, unsigned long long found, unsigned long long 
 
 static void sizes(void)
 {
+    SAME(PANEL_VERSION_MAJOR, 1); /* of a block of 348 bytes */
+    SAME(PANEL_VERSION_MINOR, 0);
     SAME(PANEL_STATE_BYTES, 348);
     SAME(PANEL_MEMORY_BYTES(1), 5120);
     SAME(PANEL_MEMORY_BYTES(257), 4 * 328960);
@@ -35,6 +37,8 @@ static void sizes(void)
     SAME(PANEL_SCREEN_WIDTH, 1280);
     SAME(PANEL_SCREEN_HEIGHT, 1024);
     SAME(PANEL_COLUMNS_BYTES, 2 * 1280);
+    SAME(PANEL_AT_BANKS, 8 * 2); /* behind eight header fields of 16 bits */
+    SAME(PANEL_AT_REGISTERS, PANEL_AT_BANKS + PANEL_BANKS * 2);
     SAME(PANEL_AT_FLAGS, PANEL_AT_REGISTERS + 7 * 4);
     SAME(PANEL_AT_TAGS, PANEL_AT_COUNTER + 4);
     SAME(PANEL_AT_PIXELS, PANEL_AT_TAGS + PANEL_SLOTS * 4);
@@ -73,6 +77,7 @@ static void compare_bits(void)
     SAME(PANEL_MATCH_EQUAL, 2 << 8);
     SAME(PANEL_MATCH_DIFFER, 3 << 8);
     SAME(PANEL_DECAL, 1 << 10);
+    SAME(PANEL_BOTH_DATA, 0);
     SAME(PANEL_BOTH_CONSTANT, 1L << 16);
     SAME(PANEL_MAGNITUDE_CONSTANT, 2L << 16);
     SAME(PANEL_MATCH_CONSTANT, 3L << 16);
@@ -92,6 +97,19 @@ static void compare_bits(void)
     SAME(PANEL_ROP_ALL(PANEL_SET | PANEL_ROP_CONSTANT), PANEL_ROP_CONTROL_BITS);
     SAME(PANEL_ROP_CONTROL_BITS, 0x2F2F2F2FL);
     SAME(PANEL_COMPARE_CONTROL_BITS, 0x0F030707L);
+    SAME(PANEL_WRITE_ADDRESS_CONTROL_BITS, 1);
+    SAME(PANEL_PLANE_MASK_FRESH, UINT32_C(0xFFFFFFFF));
+    SAME(PANEL_ALL_BYTES, 15);
+    SAME(PANEL_PASS_IN, 3);
+}
+
+/* Each number in words of its own. */
+static void texts(void)
+{
+    for (uint32_t number = PANEL_DONE; number <= PANEL_NO_POINT; number++)
+        for (uint32_t other = number + 1; other <= PANEL_NO_POINT + 1; other++)
+            same("two numbers in the same words", strcmp(panel_number_text(number), panel_number_text(other)) == 0, 0);
+    same("the text of a number that is none", strcmp(panel_number_text(99), panel_number_text(PANEL_NO_POINT + 1)) == 0, 1);
 }
 
 static void accessors(void)
@@ -138,6 +156,7 @@ int main(void)
     sizes();
     lists();
     compare_bits();
+    texts();
     accessors();
     functions();
     if (failures == 0)

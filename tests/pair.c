@@ -16,6 +16,7 @@ static const char *phase = "";
 static uint64_t phase_seed;
 static unsigned long run;
 static unsigned long tried[TRIED_KINDS][MODEL_NUMBERS];
+static unsigned long runs, placed[PLACES][PLACES]; /* by the places of memory and of the state block */
 
 void at_phase(const char *name, uint64_t seed)
 {
@@ -43,7 +44,9 @@ static void print_answer(const char *who, uint64_t answer)
 static void report_call(const struct pair *pair, const struct call *call)
 {
     report_place();
-    printf("  P %u, call %lu of the run", pair->pages, pair->call);
+    printf("  P %u, memory at %lu and state at %lu past a multiple of %d, call %lu of the run", pair->pages,
+           (unsigned long)((uintptr_t)pair->library.memory % PLACES), (unsigned long)((uintptr_t)pair->library.state % PLACES),
+           PLACES, pair->call);
     if (call != NULL)
         printf(": op %u, operands %u %u %u %u, data %08x", call->op, call->a, call->b, call->c, call->d, call->data);
     printf("\n");
@@ -122,15 +125,32 @@ static bool guards_stand(const uint8_t *room, size_t bytes, size_t behind)
     return true;
 }
 
-/* State blocks lie at odd addresses: they are bytes, and a caller need not align them. */
 static void side_make(struct side *side, const struct pair *pair)
 {
-    side->state_room = need(state_room() + 1) + 1;
-    side->memory_room = need(memory_room(pair));
+    side->state_lent = need(state_room() + 2 * PLACES);
+    side->memory_lent = need(memory_room(pair) + 2 * PLACES);
+}
+
+/* The first address from here on that is so much past a multiple of PLACES. */
+static uint8_t *place_at(uint8_t *lent, size_t past) { return lent + (PLACES - (uintptr_t)lent % PLACES) + past; }
+
+static void side_place(struct side *side, const struct pair *pair, size_t memory_at, size_t state_at)
+{
+    side->state_room = place_at(side->state_lent, state_at);
+    side->memory_room = place_at(side->memory_lent, memory_at);
     side->state = side->state_room + GUARD_FRONT;
     side->memory = side->memory_room + GUARD_FRONT;
     fill_guards(side->state_room, MODEL_STATE, GUARD_STATE);
     fill_guards(side->memory_room, pair->memory_len, GUARD_MEMORY);
+}
+
+static void next_places(struct pair *pair)
+{
+    size_t memory_at = (1 + runs) % PLACES, state_at = (1 + runs + runs / PLACES) % PLACES;
+    side_place(&pair->library, pair, memory_at, state_at);
+    side_place(&pair->model, pair, memory_at, state_at);
+    placed[memory_at][state_at]++;
+    runs++;
 }
 
 void pair_make(struct pair *pair, uint32_t pages)
@@ -144,8 +164,8 @@ void pair_make(struct pair *pair, uint32_t pages)
 
 static void side_free(struct side *side)
 {
-    free(side->state_room - 1);
-    free(side->memory_room);
+    free(side->state_lent);
+    free(side->memory_lent);
 }
 
 void pair_free(struct pair *pair)
@@ -162,6 +182,7 @@ void pair_state(struct pair *pair, const uint8_t *state)
 
 void pair_start(struct pair *pair, const uint8_t *state, const uint8_t *memory)
 {
+    next_places(pair);
     pair_state(pair, state);
     memcpy(pair->library.memory, memory, pair->memory_len);
     memcpy(pair->model.memory, memory, pair->memory_len);
@@ -332,6 +353,16 @@ static bool can_be(int kind, int number)
     }
 }
 
+static bool placed_all(void)
+{
+    unsigned long fewest = runs;
+    for (int memory_at = 0; memory_at < PLACES; memory_at++)
+        for (int state_at = 0; state_at < PLACES; state_at++)
+            fewest = placed[memory_at][state_at] < fewest ? placed[memory_at][state_at] : fewest;
+    printf("%lu runs; each pair of addresses of memory and state, modulo %d, in at least %lu\n", runs, PLACES, fewest);
+    return fewest != 0;
+}
+
 bool tried_all(void)
 {
     bool all = true;
@@ -349,7 +380,7 @@ bool tried_all(void)
         }
     }
     printf("\n");
-    return all;
+    return all && placed_all();
 }
 
 unsigned long tried_in_total(void)

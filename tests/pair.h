@@ -18,7 +18,12 @@
 /* Bytes in front of and behind each buffer, which nothing may change. Wrong lengths reach into the hind ones. */
 enum { GUARD_FRONT = 64, GUARD_STATE = 256, GUARD_MEMORY = 5184 };
 
+/* Buffers are bytes, and a caller need not align them. So each run has its own places for them: memory goes from one address to the
+ * next, modulo 16, and after each sixteen runs the state block does too, so that every pair of places comes. */
+enum { PLACES = 16 };
+
 struct side {
+    uint8_t *state_lent, *memory_lent; /* as they were allocated */
     uint8_t *state_room, *memory_room; /* with the guards */
     uint8_t *state, *memory;
 };
@@ -52,7 +57,7 @@ void at_run(unsigned long number);
 void pair_make(struct pair *pair, uint32_t pages);
 void pair_free(struct pair *pair);
 
-/* Starts a run: both sides get the same bytes, memory_len of memory and MODEL_STATE of state. */
+/* Starts a run at the next places: both sides get the same bytes, memory_len of memory and MODEL_STATE of state. */
 void pair_start(struct pair *pair, const uint8_t *state, const uint8_t *memory);
 void pair_state(struct pair *pair, const uint8_t *state);
 
@@ -72,7 +77,7 @@ void same_answer(int kind, uint64_t library, uint64_t model, const char *what, u
 void wrong(const char *fact, uint64_t found, uint64_t expected);
 void wrong_at(const struct pair *pair, const struct call *call, const char *fact, uint64_t found, uint64_t expected);
 
-/* The table of what was tried. False where a number that can be given for a kind never was. */
+/* The table of what was tried. False where a number that can be given for a kind never was, or a place was never used. */
 bool tried_all(void);
 unsigned long tried_in_total(void);
 

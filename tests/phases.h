@@ -8,10 +8,14 @@
 /* Document 01's examples, with the numbers that it prints. */
 void try_examples(void);
 
-/* Every screen point and those just outside, the column table, every scan line. */
+/* Its sentences that no example shows, by their numbers in docs/TRACE.md. */
+void try_sentences(void);
+
+/* Every screen point and those just outside, the column table, every scan line; those of the first and the last page alone. */
 void try_points(void);
 void try_columns(void);
 void try_scan_lines(uint32_t pages);
+void try_last_lines(uint32_t pages);
 
 /* Operands at and past their edges, wrong lengths, damaged blocks, fresh chips. */
 void try_edges(uint32_t pages);
@@ -24,6 +28,9 @@ void try_random(uint32_t pages, uint64_t seed, unsigned long calls);
 
 /* Random calls that keep demand 3's premises: library against the flat picture. */
 void try_pictures(uint32_t pages, uint64_t seed, unsigned long calls);
+
+/* Each premise of demand 3 broken by itself: the calls are done, and memory is not the flat picture. */
+void try_duties(void);
 
 /* What the pictures drew with; false where something was never used. */
 bool drew_all(void);

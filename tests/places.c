@@ -56,6 +56,15 @@ static void points_fill(void)
     free(met); /* 1280 x 1024 points, none twice, in as many bytes: all are met */
 }
 
+/* A point of every page, of every bank, for each number of pages that a chip can have. */
+static void points_of_pages(void)
+{
+    for (uint32_t pages = 1; pages <= PANEL_PAGES_MAX; pages++)
+        for (uint32_t y = pages % 16; y < HEIGHT; y += 16)
+            for (uint32_t x = pages % 80; x < WIDTH; x += 80)
+                point(pages, x, y);
+}
+
 void try_points(void)
 {
     static const uint32_t pages[] = {1, 2, 9, 255, 256, 257};
@@ -66,19 +75,22 @@ void try_points(void)
     }
     for (int i = 0; i < 6; i++)
         points_outside(no_pages[i]);
+    points_of_pages();
     points_fill();
 }
 
 /* ---- Columns ---- */
 
-static void columns_of_length(size_t len)
+/* A table of so many bytes, so far past a multiple of 16. */
+static void columns_of_length(size_t len, size_t past)
 {
     enum { ROOM = 64 + 5120 + 64 };
     uint8_t library[ROOM], model[ROOM];
+    size_t at = 32 + (PLACES - (uintptr_t)library % PLACES) + past;
     for (int i = 0; i < ROOM; i++)
         library[i] = model[i] = (uint8_t)(i * 37 + 11);
-    same_answer(TRIED_COLUMNS, panel_columns(library + 64, len), model_columns(model + 64, len), "panel_columns", (uint32_t)len,
-                0, 0);
+    same_answer(TRIED_COLUMNS, panel_columns(library + at, len), model_columns(model + at, len), "panel_columns", (uint32_t)len,
+                (uint32_t)past, 0);
     for (int i = 0; i < ROOM; i++)
         if (library[i] != model[i])
             wrong("panel_columns: a byte of the table, or one that it must not write", library[i], model[i]);
@@ -88,7 +100,8 @@ void try_columns(void)
 {
     static const size_t lengths[] = {PANEL_COLUMNS_BYTES, 0, 1, 2, 1280, 2558, 2559, 2561, 2562, 5120};
     for (size_t i = 0; i < sizeof lengths / sizeof *lengths; i++)
-        columns_of_length(lengths[i]);
+        for (size_t past = 0; past < PLACES; past++)
+            columns_of_length(lengths[i], past);
     for (uint32_t x = 0; x < 70000; x++)
         same_answer(TRIED_COLUMN, panel_column(x), model_column(x), "panel_column", x, 0, 0);
     for (int i = 0; i < OUTSIDE; i++)
@@ -97,10 +110,11 @@ void try_columns(void)
 
 /* ---- Scan lines ---- */
 
-static void lines_inside(struct pair *pair)
+/* Of each bank the pages 0, step, 2 * step and so on. */
+static void lines_inside(struct pair *pair, uint32_t step)
 {
     for (uint32_t bank = 0; bank < 4; bank++)
-        for (uint32_t page = 0; page < pair->pages; page++)
+        for (uint32_t page = 0; page < pair->pages; page += step)
             for (uint32_t line = 0; line < 16; line++) {
                 uint64_t answer = pair_scan_line(pair, MODEL_STATE, pair->memory_len, bank, page, line);
                 if (panel_value(answer) + PANEL_LINE_BYTES > pair->memory_len)
@@ -152,18 +166,38 @@ static void lines_show(struct pair *pair)
                 line_shows(pair, xs[i], ys[j]);
 }
 
+/* A fresh chip over zero memory. */
+static void make(struct pair *pair, uint32_t pages)
+{
+    uint8_t state[MODEL_STATE], *zero;
+    pair_make(pair, pages);
+    zero = need(pair->memory_len);
+    model_fresh(state, sizeof state, pages);
+    pair_start(pair, state, zero);
+    free(zero);
+}
+
+static void end(struct pair *pair)
+{
+    pair_whole(pair, NULL);
+    pair_free(pair);
+}
+
 void try_scan_lines(uint32_t pages)
 {
     struct pair pair;
-    uint8_t state[MODEL_STATE], *zero;
-    pair_make(&pair, pages);
-    zero = need(pair.memory_len);
-    model_fresh(state, sizeof state, pages);
-    pair_start(&pair, state, zero);
-    lines_inside(&pair);
+    make(&pair, pages);
+    lines_inside(&pair, 1);
     lines_outside(&pair);
     lines_show(&pair);
-    pair_whole(&pair, NULL);
-    free(zero);
-    pair_free(&pair);
+    end(&pair);
+}
+
+void try_last_lines(uint32_t pages)
+{
+    struct pair pair;
+    make(&pair, pages);
+    lines_inside(&pair, pages > 1 ? pages - 1 : 1);
+    lines_outside(&pair);
+    end(&pair);
 }

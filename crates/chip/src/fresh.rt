@@ -6,15 +6,14 @@ use super::Chip;
 use super::Control;
 use super::Refusal;
 ghost use mathlib.Core.Path.{_≡_};
-ghost use mathlib.Core.Bool.{true};
-ghost use Rattle.layout.specs.Memory.{pagesFit};
+ghost use Prim.Native.Nat.{_≤_};
 ghost use Rattle.chip.specs.State.{freshOf};
 ghost use Rattle.chip.specs.Answers.{givenBack};
 ghost use Rattle.chip.specs.Calls.{freshGiven, freshChip};
 
 // A fresh chip with so many pages to a bank.
 pub fn fresh(pages: u16) -> Chip
-    requires { ⌜ pagesFit pages ≡ true ⌝ }
+    requires { ⌜ (1 ≤ pages) × (pages ≤ 257) ⌝ }
     ensures { λ r. ⌜ r ≡ freshOf pages ⌝ }
 {
     Chip {

@@ -12,10 +12,10 @@ use Rattle.layout.specs.Memory.{pagesFit, size, inBank, place, onLine, l
 use Rattle.numbers.proofs.Tests.{none-applies, and-left, and-right, given-done, given-refused}
 use Rattle.layout.proofs.Places.{place-lt}
 
--- P is at most 257
-pub pages-most : (P : ℕ) → pagesFit P ≡ true → P ≤ 257
+-- the test of P, as numbers
+pub pages-between : (P : ℕ) → pagesFit P ≡ true → (1 ≤ P) × (P ≤ 257)
 unfolding pagesFit
-pages-most P e = leb-true P 257 (and-right (leb 1 P) (leb P 257) e)
+pages-between P e = (leb-true 1 P (and-left (leb 1 P) (leb P 257) e), leb-true P 257 (and-right (leb 1 P) (leb P 257) e))
 
 pub on-line-lt : (line column : ℕ) → line < 16 → column < 80 → onLine line column < 1280
 unfolding onLine

@@ -1,6 +1,5 @@
 // The lent memory: its pages, and the blocks and scan lines of a page. The definitions are specs/Memory.antt.
 ghost use mathlib.Core.Path.{_≡_};
-ghost use mathlib.Core.Bool.{true};
 ghost use Prim.Native.Nat.{_+_, _<_, _≤_};
 ghost use lib.ListN.{length};
 ghost use Rattle.layout.specs.Memory.{pagesFit, size, inPage, lineStart, lineNumber, lineGiven};
@@ -29,7 +28,7 @@ pub fn in_page(block: usize, i: usize) -> usize
 
 // The number that a scan line of a memory of this length gives, where P fits: 0 where there is one.
 pub fn line_number(length: usize, pages: u32, bank: u32, page: u32, line: u32) -> u32
-    requires { ⌜ pagesFit pages ≡ true ⌝ }
+    requires { ⌜ (1 ≤ pages) × (pages ≤ 257) ⌝ }
     ensures { λ r. ⌜ r ≡ lineNumber pages length bank page line ⌝ }
 {
     if length != 4 * (pages as usize * PAGE_BYTES) {
@@ -52,7 +51,7 @@ pub fn line_start(pages: u32, bank: u32, page: u32, line: u32) -> usize
 
 // A scan line: that part of memory, not copied, or a part of length 0 where line_number is not 0.
 pub fn scan_line(memory: &[u8], pages: u32, bank: u32, page: u32, line: u32) -> &[u8]
-    requires { ⌜ pagesFit pages ≡ true ⌝ }
+    requires { ⌜ (1 ≤ pages) × (pages ≤ 257) ⌝ }
     ensures { λ r. ⌜ now r ≡ lineGiven pages bank page line (now (memory .entry)) ⌝ }
 {
     if line_number(memory.len(), pages, bank, page, line) != 0 {

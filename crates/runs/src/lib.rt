@@ -5,10 +5,8 @@ use chip::Call;
 use chip::Chip;
 use chip::fresh;
 ghost use mathlib.Core.Path.{_≡_};
-ghost use mathlib.Core.Bool.{true};
 ghost use Prim.Native.Nat.{_+_, _^_, _<_, _≤_};
 ghost use lib.ListN.{length};
-ghost use Rattle.layout.specs.Memory.{pagesFit};
 ghost use Rattle.chip.specs.State.{freshOf};
 ghost use Rattle.chip.specs.Calls.{memoryOf};
 ghost use Rattle.runs.specs.Runs.{callAt, callsIn, nextRan, ranOf, memoryLeft};
@@ -75,7 +73,7 @@ pub fn run(chip: Chip, memory: &mut [u8], numbers: &[u32]) -> Ran
 
 // "Start fresh over any memory": a chip made fresh with this many pages to a bank, and the calls. Demand 3 is in the contract.
 pub fn draw(pages: u16, memory: &mut [u8], numbers: &[u32]) -> Ran
-    requires { ⌜ pagesFit pages ≡ true ⌝ }
+    requires { ⌜ (1 ≤ pages) × (pages ≤ 257) ⌝ }
     ensures { λ r. ⌜ (r ≡ ranOf (freshOf pages) (now (memory .entry)) (callsIn (now (numbers .entry)))) × (now (memory .exit) ≡ memoryLeft (freshOf pages) (now (memory .entry)) (callsIn (now (numbers .entry)))) ⌝ }
     ensures { λ _. ⌜ IsPicture pages (now (memory .entry)) (callsIn (now (numbers .entry))) (now (memory .exit)) ⌝ }
 {

@@ -1,15 +1,16 @@
 -- `panel::panel_fresh`: number 1 for a wrong length, 4 for a wrong P, and past both tests the fresh chip, stored. Assumes nothing.
 use mathlib.Core.Path.{_≡_, ap, _∙_}
 use mathlib.Core.Bool.{true}
-use lib.Dec.{eqb, leb}
+use Prim.Native.Nat.{_≤_}
+use lib.Dec.{eqb}
 use lib.ListN.{length}
 use native.Mathlib.Omega.{arith}
 use denote.Ref.{now}
-use borrow.Author.Tests.{eq-eqb, ne-eqb, leb-true}
+use borrow.Author.Tests.{eq-eqb, ne-eqb}
 use borrow.Author.Needs.{needs}
 use Rattle.numbers.specs.Numbers.{first}
-use Rattle.layout.specs.Memory.{pagesFit}
-use Rattle.numbers.proofs.Tests.{and-right, test-holds, test-fails}
+use Rattle.layout.proofs.ScanLines.{pages-between}
+use Rattle.numbers.proofs.Tests.{test-holds, test-fails}
 use Rattle.block.specs.Block.{blockBytes, encode}
 use Rattle.block.specs.OnBlock.{freshBlockNumber, freshBlock}
 use Rattle.panel.specs.Packs.{freshPacked}
@@ -35,11 +36,12 @@ returns-2 c =
     let outside = test-fails (c .before .before .pages-fit .ensures) (c .before .if2 .taken) in
     (c .pack2 .ensures ∙ rw (long (c .before .before), outside), rw (long (c .before .before), outside))
 
+-- past the second P fits
+between : (c : tie.Else2) → let P = entry (c .before) .args .pages in (1 ≤ P) × (P ≤ 257)
+between c = pages-between _ (test-holds (c .before .pages-fit .ensures) (c .if2 .left))
+
 cast-fresh : tie.Need-cast-fresh
-unfolding pagesFit
-cast-fresh c =
-    let P = entry (c .before .before) .args .pages in
-    omega (arith, leb-true P 257 (and-right (leb 1 P) (leb P 257) (test-holds (c .before .before .pages-fit .ensures) (c .before .if2 .left))))
+cast-fresh c = omega (arith, between (c .before) .1)
 
 returns-3 : tie.Need-returns-3
 unfolding freshPacked freshBlock freshBlockNumber first
@@ -49,7 +51,7 @@ returns-3 c =
     (c .pack3 .ensures ∙ rw (long (past .before), inside), c .before .before .before .store .ensures ∙ rw (long (past .before), inside) (ap encode (c .before .before .before .before .fresh .ensures)))
 
 fresh-requires : tie.Need-fresh-requires
-fresh-requires c κs = test-holds (c .before .before .pages-fit .ensures) (c .before .if2 .left)
+fresh-requires c κs = between (c .before)
 
 pub panel-fresh-spec : {M : Type 1} → statement M
 panel-fresh-spec = tie.close (tie.spec (λ c κs. search needs) returns (λ c κs. search needs) (λ c κs. search needs) returns-2 cast-fresh fresh-requires (λ c κs. search needs) (λ c κs. search needs) (λ c. search needs) returns-3)

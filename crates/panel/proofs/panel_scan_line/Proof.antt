@@ -1,19 +1,18 @@
 -- `panel::panel_scan_line`: number 1 for a block that is not well formed, else the line's number, and with 0 where the line starts. Assumes nothing.
 use mathlib.Core.Path.{_≡_, sym, ap, _∙_}
 use mathlib.Core.Bool.{true}
-use Prim.Native.Nat.{ℕ, zero, suc}
+use Prim.Native.Nat.{ℕ, zero, suc, _≤_}
 use native.Mathlib.Omega.{arith}
 use denote.Ref.{now}
 use borrow.Author.Needs.{needs}
 use Rattle.numbers.specs.Numbers.{whenDone}
-use Rattle.layout.specs.Memory.{pagesFit, size, lineStart}
+use Rattle.layout.specs.Memory.{size, lineStart}
 use Rattle.numbers.proofs.Tests.{test-holds, test-fails}
 use Rattle.layout.proofs.ScanLines as lines
 use Rattle.chip.specs.Answers.{packed}
-use Rattle.block.specs.Block.{decodeControl, wellFormedBlock}
+use Rattle.block.specs.Block.{wellFormedBlock}
 use Rattle.block.specs.OnBlock.{blockLineNumber}
-use Rattle.chip.proofs.Accepted.{formed}
-use Rattle.own.proofs.WellFormed.{well-long, well-control}
+use Rattle.own.proofs.WellFormed.{well-long, pages-in}
 use Rattle.panel.specs.Packs.{valued, lineOffset}
 use Rattle.panel.proofs.Packings.{line-told, line-lt}
 use Rattle.panel.proofs.panel_scan_line.Statement.{statement}
@@ -53,8 +52,8 @@ returns-2 c =
     c .pack2 .ensures ∙ refused _ (line-told (now (a .state)) (now (a .memory)) (a .bank) (a .page) (a .line) (well past) (c .before .before .before .pages .ensures) (c .before .before .line-number .ensures)) (c .before .if2 .taken)
 
 -- past that test P fits
-fits : (c : tie.After-pages) → pagesFit (c .pages .result) ≡ true
-fits c = rw (c .pages .ensures) (formed (decodeControl _) (well-control _ (well (c .before))) .0)
+fits : (c : tie.After-pages) → (1 ≤ c .pages .result) × (c .pages .result ≤ 257)
+fits c = rw (c .pages .ensures) (pages-in _ (well (c .before)))
 
 line-number-requires : tie.Need-line-number-requires
 line-number-requires c κs = fits c
@@ -62,12 +61,12 @@ line-number-requires c κs = fits c
 line-start-requires : tie.Need-line-start-requires
 line-start-requires c κs =
     let in-range = lines.passed (c .before .before .pages .result) _ _ _ _ (sym (c .before .line-number .ensures) ∙ c .if2 .left) in
-    (lines.pages-most _ (fits (c .before .before)), in-range .bank-lt, in-range .page-lt, in-range .line-lt)
+    (fits (c .before .before) .1, in-range .bank-lt, in-range .page-lt, in-range .line-lt)
 
 cast-pack : tie.Need-cast-pack
 unfolding size
 cast-pack c =
-    omega (arith, c .line-start .ensures .1, lines.pages-most _ (fits (c .before .before .before)))
+    omega (arith, c .line-start .ensures .1, fits (c .before .before .before) .1)
 
 returns-3 : tie.Need-returns-3
 unfolding lineOffset

@@ -10,7 +10,7 @@ use Rattle.layout.specs.Memory.{scanLine, lineGiven}
 use Rattle.numbers.proofs.Tests.{test-holds, test-fails}
 use Rattle.chip.specs.Refusals.{scanLineNumber}
 use Rattle.chip.specs.Calls.{scanLineOf}
-use Rattle.chip.proofs.Accepted.{formed}
+use Rattle.chip.proofs.Accepted.{pages-fit}
 use Rattle.chip.proofs.StateForms.{line-told}
 use Rattle.hosts.proofs.display.scan_line.Statement.{statement}
 use Rattle.hosts.proofs.display.scan_line.Tie as tie
@@ -27,7 +27,7 @@ returns-2 c =
     (line-told (a .control) (length (now (a .memory))) (a .bank) (a .page) (a .line) (test-holds (c .before .before .before .well-formed .ensures) (c .before .before .if1 .left)))
 
 scan-line-requires : tie.Need-scan-line-requires
-scan-line-requires c κs = formed _ (test-holds (c .before .before .well-formed .ensures) (c .before .if1 .left)) .0
+scan-line-requires c κs = pages-fit _ (test-holds (c .before .before .well-formed .ensures) (c .before .if1 .left))
 
 pub scan-line-spec : {M : Type 1} → statement M
 scan-line-spec = tie.close (tie.spec (λ c κs. search needs) (λ c. search needs) (λ c. search needs) (λ c. search needs) returns (λ c. search needs) scan-line-requires returns-2)

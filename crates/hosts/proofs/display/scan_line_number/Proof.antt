@@ -4,7 +4,7 @@ use borrow.Author.Needs.{needs}
 use Rattle.numbers.specs.Numbers.{first}
 use Rattle.numbers.proofs.Tests.{test-holds, test-fails}
 use Rattle.chip.specs.Refusals.{scanLineNumber}
-use Rattle.chip.proofs.Accepted.{formed}
+use Rattle.chip.proofs.Accepted.{pages-fit}
 use Rattle.chip.proofs.StateForms.{line-told}
 use Rattle.hosts.proofs.display.scan_line_number.Statement.{statement}
 use Rattle.hosts.proofs.display.scan_line_number.Tie as tie
@@ -19,7 +19,7 @@ returns-2 c =
     c .line-number .ensures ∙ line-told (a .control) (a .length) (a .bank) (a .page) (a .line) (test-holds (c .before .before .before .well-formed .ensures) (c .before .before .if1 .left))
 
 line-number-requires : tie.Need-line-number-requires
-line-number-requires c κs = formed _ (test-holds (c .before .before .well-formed .ensures) (c .before .if1 .left)) .0
+line-number-requires c κs = pages-fit _ (test-holds (c .before .before .well-formed .ensures) (c .before .if1 .left))
 
 pub scan-line-number-spec : {M : Type 1} → statement M
 scan-line-number-spec = tie.close (tie.spec (λ c κs. search needs) returns (λ c. search needs) line-number-requires returns-2)

@@ -5,7 +5,7 @@ use native.Mathlib.Omega.{arith}
 use lib.ListN.{length}
 use borrow.Author.Needs.{needs}
 use Rattle.layout.specs.Memory.{scanLine, lineNumber}
-use Rattle.layout.proofs.ScanLines.{pages-most, passed, line-inside, line-given, line-refused}
+use Rattle.layout.proofs.ScanLines.{passed, line-inside, line-given, line-refused}
 use Rattle.layout.proofs.memory.scan_line.Statement.{statement}
 use Rattle.layout.proofs.memory.scan_line.Tie as tie
 
@@ -22,7 +22,7 @@ returns c = sym (line-refused _ _ _ _ _ (λ e. c .before .if1 .taken (c .before 
 line-start-requires : tie.Need-line-start-requires
 line-start-requires c κs =
     let p = passed _ _ _ _ _ (done c) in
-    (pages-most _ (c .before .before .before .pre), p .bank-lt, p .page-lt, p .line-lt)
+    (c .before .before .before .pre .1, p .bank-lt, p .page-lt, p .line-lt)
 
 add-result : tie.Need-add-result
 add-result c = omega (arith, inside c, c .before .before .before .before .good)

@@ -1,0 +1,214 @@
+/* faults.c: a stand-in for the library that makes one mistake, to see which tests from outside find it (scripts/faults). It is
+ * the model under the library's names; the environment's FAULT is the number of the mistake, and 0 or none is no mistake. Each
+ * is made at one point alone: one size, one address, one slot, one page, one value of the counter. */
+#include <stdlib.h>
+#include <string.h>
+
+#include "model.h"
+#include "panel.h"
+
+enum fault {
+    NO_FAULT,
+    SIZE_256_BACK,      /* P = 256: a masked write-back leaves out the block's last byte */
+    SIZE_255_ACCESS,    /* P = 255: the last page cannot be opened */
+    SIZE_100_DUPLICATE, /* P = 100: a duplicate leaves out the page's last byte */
+    SIZE_77_FRESH,      /* P = 77: a fresh chip with another raster code */
+    SIZE_130_POINT,     /* P = 130: points of the last page give 8 */
+    SIZE_201_LINE,      /* P = 201: scan lines of bank 1 start a line late */
+    SIZE_256_COUNT,     /* P = 256: the count of a write-back to page 128 of bank 1 is wrong */
+    MEMORY_ODD,         /* memory at an odd address: a masked write-back leaves out the block's last byte */
+    MEMORY_13,          /* memory at 13 past a multiple of 16: a load takes byte 30 for byte 31 */
+    STATE_6,            /* state at 6 past a multiple of 16: reading a register is not counted */
+    TABLE_ODD,          /* column table at an odd address: its last byte is left out */
+    BOTH_9_AND_4,       /* memory at 9 and state at 4: a masked write-back of slot 3 leaves out the block's last byte */
+    SLOT_5,             /* slot 5: a masked write-back takes no mask */
+    SLOT_6_INITIAL,     /* slot 6, word 2, enables 5: a stateless initial write tags byte 3 too */
+    PAGE_200,           /* page 200 of bank 2, P = 257: a masked write-back goes to page 201 */
+    BANK_3,             /* bank 3: a duplicate of page 0 over the last page copies nothing */
+    COUNTER_END,        /* counter FFFFFFFFh stays */
+    COUNTER_24_BITS,    /* counter 00FFFFFFh becomes 0 */
+    COUNTER_31_BITS,    /* counter 7FFFFFFFh becomes 0 */
+    TAG_ALL,            /* tag FFFFFFFFh: an unmasked write-back counts 31 */
+    MASK_BIT_31,        /* plane mask 80000000h is stored as 0 */
+    TO_SLOT_7_WORD_7,   /* write address control 1, slot 7, word 7: byte 3 is not tagged */
+    REFUSED_OR_TAG,     /* an OR tag refused with 4 is counted */
+    LAST_LINE,          /* scan line 15 of page 256 of bank 3 starts at 0 */
+    LAST_POINT,         /* point (1279, 1023), P = 256: 8 */
+    HIT_WITHOUT_BYTES,  /* a stateful write with no byte enabled sets no hit */
+    BEHIND_MEMORY,      /* an unmasked write-back of the last block changes the byte behind memory */
+    COUNTER_12345678,   /* counter 12345678h stays */
+    DATA_12345678,      /* a stateful write of data 12345678h is not counted */
+};
+
+static enum fault planted(void)
+{
+    static int number = -1;
+    if (number < 0)
+        number = getenv("FAULT") != NULL ? atoi(getenv("FAULT")) : 0;
+    return (enum fault)number;
+}
+
+enum { PLACES = 16 }; /* addresses are looked at modulo this */
+static size_t past(const uint8_t *at) { return (uintptr_t)at % PLACES; }
+
+static bool refused(uint64_t answer) { return panel_number(answer) != PANEL_DONE; }
+static const uint64_t no_point = (uint64_t)PANEL_NO_POINT << 40;
+
+uint64_t panel_fresh(uint8_t *state, size_t state_len, uint32_t pages)
+{
+    uint64_t answer = model_fresh(state, state_len, pages);
+    if (planted() == SIZE_77_FRESH && !refused(answer) && pages == 77)
+        state[PANEL_AT_REGISTERS + 16] = PANEL_AND_REVERSE;
+    return answer;
+}
+
+uint64_t panel_point(uint32_t pages, uint32_t x, uint32_t y)
+{
+    if (planted() == SIZE_130_POINT && pages == 130 && y / 32 * 8 + x / 160 == 129)
+        return no_point;
+    if (planted() == LAST_POINT && pages == 256 && x == 1279 && y == 1023)
+        return no_point;
+    return model_point(pages, x, y);
+}
+
+uint64_t panel_column(uint32_t x) { return model_column(x); }
+
+uint64_t panel_columns(uint8_t *table, size_t len)
+{
+    uint8_t last = len == PANEL_COLUMNS_BYTES ? table[len - 1] : 0;
+    uint64_t answer = model_columns(table, len);
+    if (planted() == TABLE_ODD && !refused(answer) && past(table) % 2 == 1)
+        table[len - 1] = last;
+    return answer;
+}
+
+uint64_t panel_scan_line(const uint8_t *state, size_t state_len, const uint8_t *memory, size_t memory_len, uint32_t bank,
+                         uint32_t page, uint32_t line)
+{
+    uint64_t answer = model_scan_line(state, state_len, memory, memory_len, bank, page, line);
+    if (planted() == SIZE_201_LINE && !refused(answer) && model_pages(state) == 201 && bank == 1)
+        return answer + PANEL_LINE_BYTES;
+    if (planted() == LAST_LINE && !refused(answer) && bank == 3 && page == 256 && line == 15)
+        return 0;
+    return answer;
+}
+
+/* ---- Calls ---- */
+
+/* What the mistakes look at, before a call that is done. */
+struct moment {
+    uint32_t pages, counter, page, tag;
+    bool into_7_7;       /* a stateful write by its data's address, to slot 7 and word 7 */
+    bool no_hit;         /* picking is on, hit is clear */
+    size_t last;         /* in memory: the last byte that a write-back or a duplicate may change */
+    uint8_t last_before; /* what it held */
+};
+
+static struct moment look(const uint8_t *state, const uint8_t *memory, const struct call *x)
+{
+    struct moment m = {model_pages(state), get32(state + PANEL_AT_COUNTER), PANEL_CLOSED, 0, false, false, 0, 0};
+    if (x->op >= PANEL_ACCESS_PAGE && x->op <= PANEL_UNMASKED_WRITE)
+        m.page = model_open_page(state, x->a);
+    if (x->op == PANEL_DUPLICATE_PAGE)
+        m.last = model_page_at(state, x->a, x->b) + PANEL_PAGE_BYTES - 1;
+    if (x->op == PANEL_MASKED_WRITE || x->op == PANEL_UNMASKED_WRITE) {
+        m.last = model_page_at(state, x->a, m.page) + model_byte_in_page(x->b, 31);
+        m.tag = model_tag(state, x->c);
+    }
+    m.last_before = memory[m.last];
+    m.into_7_7 = (x->op == PANEL_STATEFUL_WRITE || x->op == PANEL_STATEFUL_INITIAL) && model_register(state, 7) == 1 &&
+                 (x->data >> 24 & 63) == 63;
+    m.no_hit = model_picking(state) && !model_hit(state);
+    return m;
+}
+
+/* Mistakes that make another call. */
+static void turn(struct call *x, uint8_t *state, const struct moment *m)
+{
+    if (planted() == SLOT_5 && x->op == PANEL_MASKED_WRITE && x->c == 5)
+        x->op = PANEL_UNMASKED_WRITE;
+    if (planted() == MASK_BIT_31 && x->op == PANEL_WRITE_REGISTER && x->a == PANEL_PLANE_MASK && x->data == 0x80000000)
+        x->data = 0;
+    if (planted() == PAGE_200 && x->op == PANEL_MASKED_WRITE && x->a == 2 && m->page == 200 && m->pages == 257)
+        put16(state + PANEL_AT_BANKS + 4, 201);
+}
+
+static void uncounted(uint8_t *state, const struct moment *m) { put32(state + PANEL_AT_COUNTER, m->counter); }
+
+static bool leaves_last_byte(const uint8_t *state, const uint8_t *memory, const struct call *x, const struct moment *m)
+{
+    switch (planted()) {
+    case SIZE_256_BACK: return x->op == PANEL_MASKED_WRITE && m->pages == 256;
+    case SIZE_100_DUPLICATE: return x->op == PANEL_DUPLICATE_PAGE && m->pages == 100;
+    case MEMORY_ODD: return x->op == PANEL_MASKED_WRITE && past(memory) % 2 == 1;
+    case BOTH_9_AND_4: return x->op == PANEL_MASKED_WRITE && past(memory) == 9 && past(state) == 4 && x->c == 3;
+    default: return false;
+    }
+}
+
+/* Mistakes in what a call leaves. */
+static void spoil(uint8_t *state, uint8_t *memory, size_t memory_len, const struct call *x, const struct moment *m)
+{
+    uint8_t *slot = state + PANEL_AT_PIXELS + 32 * x->c;
+    bool stateful = x->op == PANEL_STATEFUL_WRITE || x->op == PANEL_STATEFUL_INITIAL;
+    if (leaves_last_byte(state, memory, x, m))
+        memory[m->last] = m->last_before;
+    if (planted() == MEMORY_13 && x->op == PANEL_READ_BLOCK && past(memory) == 13)
+        slot[31] = slot[30];
+    if (planted() == SLOT_6_INITIAL && x->op == PANEL_STATELESS_INITIAL && x->a == 6 && x->b == 2 && x->c == 5)
+        state[PANEL_AT_TAGS + 24 + 1] |= 8;
+    if (planted() == PAGE_200 && x->op == PANEL_MASKED_WRITE && x->a == 2 && m->page == 200)
+        put16(state + PANEL_AT_BANKS + 4, 200);
+    if (planted() == TO_SLOT_7_WORD_7 && m->into_7_7)
+        state[PANEL_AT_TAGS + 28 + 3] &= 0x7F;
+    if (planted() == HIT_WITHOUT_BYTES && stateful && x->c == 0 && m->no_hit)
+        model_set_hit(state, false);
+    if (planted() == BEHIND_MEMORY && x->op == PANEL_UNMASKED_WRITE && m->last == memory_len - 1 && m->tag >> 31)
+        memory[memory_len] ^= 1;
+}
+
+/* Mistakes in the counter. */
+static void miscount(uint8_t *state, const struct call *x, const struct moment *m)
+{
+    if ((planted() == STATE_6 && x->op == PANEL_READ_REGISTER && past(state) == 6) ||
+        (planted() == COUNTER_END && m->counter == 0xFFFFFFFF) || (planted() == COUNTER_12345678 && m->counter == 0x12345678) ||
+        (planted() == DATA_12345678 && x->op == PANEL_STATEFUL_WRITE && x->data == 0x12345678))
+        uncounted(state, m);
+    if ((planted() == COUNTER_24_BITS && m->counter == 0x00FFFFFF) ||
+        (planted() == COUNTER_31_BITS && m->counter == 0x7FFFFFFF))
+        put32(state + PANEL_AT_COUNTER, 0);
+}
+
+/* A call that is done. */
+static uint64_t perform(uint8_t *state, uint8_t *memory, size_t memory_len, struct call x)
+{
+    struct moment m = look(state, memory, &x);
+    uint64_t answer;
+    if (planted() == SIZE_255_ACCESS && x.op == PANEL_ACCESS_PAGE && m.pages == 255 && x.b == 254)
+        return (uint64_t)PANEL_OUT_OF_RANGE << 40;
+    if (planted() == BANK_3 && x.op == PANEL_DUPLICATE_PAGE && x.a == 3 && m.page == 0 && x.b == m.pages - 1) {
+        put16(state + PANEL_AT_BANKS + 6, x.b); /* the page becomes the open one, its bytes stay */
+        put32(state + PANEL_AT_COUNTER, m.counter + 1);
+        return 0;
+    }
+    turn(&x, state, &m);
+    answer = model_call(state, MODEL_STATE, memory, memory_len, x.op, x.a, x.b, x.c, x.d, x.data);
+    spoil(state, memory, memory_len, &x, &m);
+    miscount(state, &x, &m);
+    if ((planted() == TAG_ALL && x.op == PANEL_UNMASKED_WRITE && m.tag == 0xFFFFFFFF) ||
+        (planted() == SIZE_256_COUNT && x.op == PANEL_UNMASKED_WRITE && m.pages == 256 && x.a == 1 && m.page == 128))
+        answer--;
+    return answer;
+}
+
+uint64_t panel_call(uint8_t *state, size_t state_len, uint8_t *memory, size_t memory_len, uint32_t op, uint32_t a, uint32_t b,
+                    uint32_t c, uint32_t d, uint32_t data)
+{
+    struct call x = {op, a, b, c, d, data};
+    uint32_t number = model_number(state, state_len, memory_len, &x);
+    if (number == PANEL_DONE)
+        return perform(state, memory, memory_len, x);
+    if (planted() == REFUSED_OR_TAG && op == PANEL_OR_TAG && number == PANEL_OUT_OF_RANGE)
+        put32(state + PANEL_AT_COUNTER, get32(state + PANEL_AT_COUNTER) + 1);
+    return (uint64_t)number << 40;
+}
