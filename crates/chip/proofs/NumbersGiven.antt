@@ -1,5 +1,5 @@
 -- The number that a call gives back is the first that applies; a refusal changes nothing; and what is given back says which answer it is. Assumes nothing.
-use mathlib.Core.Path.{_≡_, refl, sym, ap, _∙_}
+use mathlib.Core.Path.{_≡_, refl}
 use mathlib.Core.Bool.{Bool, true, false, cond}
 use mathlib.Core.List.{List, [], _∷_}
 use Prim.Native.Nat.{ℕ, zero, suc, _-_, _<_}
@@ -7,6 +7,7 @@ use lib.Dec.{eqb, lit<}
 use lib.ListN.{length, getD}
 use Rattle.lists.proofs.Entries.{Each}
 use Rattle.numbers.specs.Numbers.{first, whenDone}
+use Rattle.numbers.proofs.Tests.{determined}
 use Rattle.chip.specs.declared.Answer.{Answer}
 use Rattle.chip.specs.declared.Answer.the-variants.{Done, Refused}
 use Rattle.chip.specs.declared.Refusal.the-variants.{IllFormed, MemoryLength, UnknownOperation, OperandOutside, BitNotAllowed, BankOpen, BankClosed}
@@ -103,4 +104,4 @@ from-given (Refused BankClosed) = refl
 
 -- 01, Expected form: so the promise determines the answer
 pub answer-determined : (a b : Answer) → givenBack a ≡ givenBack b → a ≡ b
-answer-determined a b e = sym (from-given a) ∙ ap from e ∙ from-given b
+answer-determined = determined givenBack from from-given

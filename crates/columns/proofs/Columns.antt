@@ -1,11 +1,12 @@
 -- The column table's bytes are those of its entries, and an answer's number and entry say which it is. Assumes nothing.
-use mathlib.Core.Path.{_≡_, refl, sym, ap, ap₂, _∙_}
+use mathlib.Core.Path.{_≡_, refl, ap₂, _∙_}
 use mathlib.Core.Bool.{cond}
 use Prim.Native.Nat.{ℕ, _+_, _*_, _/_, _%_, _^_, _<_}
 use native.Mathlib.Nat.{div-one, mod-eq-of-lt}
 use native.Mathlib.Omega.{arith}
 use lib.Dec.{eqb}
 use lib.ListN.{getD}
+use Rattle.numbers.proofs.Tests.{determined}
 use Rattle.columns.specs.Columns.{table, columnEntry, ColumnGiven, foundGiven, columnByte, columnBytes, filledNumber}
 use Rattle.columns.specs.declared.Column.{Column}
 use Rattle.columns.specs.declared.Column.the-variants.{Entry, OffScreen}
@@ -52,7 +53,7 @@ found-given OffScreen = refl
 
 -- 01, Expected form: so the promise determines the answer
 pub column-determined : (a b : Column) → foundGiven a ≡ foundGiven b → a ≡ b
-column-determined a b e = sym (found-given a) ∙ ap found e ∙ found-given b
+column-determined = determined foundGiven found found-given
 
 filled : ℕ → Filled
 filled number = cond (eqb number 0) Whole WrongLength
@@ -63,4 +64,4 @@ filled-given Whole = refl
 filled-given WrongLength = refl
 
 pub filled-determined : (a b : Filled) → filledNumber a ≡ filledNumber b → a ≡ b
-filled-determined a b e = sym (filled-given a) ∙ ap filled e ∙ filled-given b
+filled-determined = determined filledNumber filled filled-given

@@ -1,5 +1,5 @@
 -- Reading a line a byte at a time gives what specs/Lines says of the whole line; its number and call say which answer it is. Assumes nothing.
-use mathlib.Core.Path.{_≡_, refl, sym, ap, _∙_}
+use mathlib.Core.Path.{_≡_, refl, ap, _∙_}
 use mathlib.Core.Bool.{Bool, true, false, cond, not, _&&_, and-false, and-true, and-assoc}
 use mathlib.Core.List.{List, [], _∷_, _++_}
 use Prim.Native.Nat.{ℕ, suc, _+_, _-_, _*_, _^_, _≤_, _<_}
@@ -11,6 +11,7 @@ use lib.Dec.{eqb, leb, ltb, eqb·suc-suc}
 use lib.ListN.{length, getD}
 use borrow.Author.Tests.{lt-ltb, le-ltb, le-leb, lt-leb, ne-eqb, eqb-true}
 use Rattle.numbers.specs.Numbers.{first, whenDone}
+use Rattle.numbers.proofs.Tests.{determined}
 use Rattle.chip.specs.declared.Call.{Call}
 use Rattle.chip.specs.Operations.{ask}
 use Rattle.lines.specs.declared.reader.Reader.{Reader}
@@ -182,4 +183,4 @@ from-given NotALine = refl
 
 -- 01, Expected form: so the promise determines the answer
 pub parsed-determined : (a b : Parsed) → parsedGiven a ≡ parsedGiven b → a ≡ b
-parsed-determined a b e = sym (from-given a) ∙ ap from e ∙ from-given b
+parsed-determined = determined parsedGiven from from-given

@@ -1,5 +1,5 @@
--- Where no number applies each test failed; what is given of a number; and what a test in code tells. Assumes nothing.
-use mathlib.Core.Path.{_≡_, refl, sym, _∙_}
+-- Where no number applies each test failed; what is given of a number, and of an answer; and what a test in code tells. Assumes nothing.
+use mathlib.Core.Path.{_≡_, refl, sym, ap, _∙_}
 use mathlib.Core.Bool.{Bool, true, false, not, _&&_, false≢true}
 use mathlib.Core.List.{List, _∷_}
 use mathlib.Core.Logic.{_≢_}
@@ -44,3 +44,7 @@ equal {r} {x} {k} e q = eq-eqb x k (sym e ∙ q)
 
 pub unequal : {r x k : ℕ} → r ≡ x → (r ≡ k → ⊥) → eqb x k ≡ false
 unequal {r} {x} {k} e f = ne-eqb x k (λ q. f (e ∙ q))
+
+-- an answer that is got back from what is given of it is determined by it
+pub determined {ℓ ℓ'} : {A : Type ℓ} {G : Type ℓ'} (given : A → G) (from : G → A) → ((a : A) → from (given a) ≡ a) → (a b : A) → given a ≡ given b → a ≡ b
+determined given from back a b e = sym (back a) ∙ ap from e ∙ back b
