@@ -1,23 +1,17 @@
--- Numbers taken six at a time, and one turn of a run. Assumes nothing.
-use mathlib.Core.Path.{_≡_, refl}
-use mathlib.Core.Bool.{Bool}
+-- Numbers taken six at a time, and the turns of a run. Assumes nothing.
+use mathlib.Core.Path.{_≡_, refl, sym, ap, _∙_}
+use mathlib.Core.Bool.{true}
 use mathlib.Core.List.{List, [], _∷_}
-use Prim.Native.Nat.{ℕ, zero, suc, _+_, _<_, _≤_}
+use Prim.Native.Nat.{ℕ, suc, _+_, _*_, _/_, _<_, _≤_}
 use native.Mathlib.Numerals.{add-one}
 use native.Mathlib.Omega.{arith}
-use lib.ListN.{length, drop, getD}
-use lib.Seq.{drop-cons}
+use lib.ListN.{length, drop, getD, length-drop}
+use lib.Seq.{drop-cons, sets}
+use borrow.Author.Tests.{eqb-true}
 use Rattle.chip.specs.declared.Call.{Call}
-use Rattle.chip.specs.declared.Answer.{Answer}
-use Rattle.chip.specs.declared.Answer.the-variants.{Done, Refused}
-use Rattle.chip.specs.declared.Answered.{Answered}
-use Rattle.chip.specs.declared.Refusal.{Refusal}
-use Rattle.chip.specs.Answers.{GivenBack, refusalNumber, givenBack}
-use Rattle.chip.specs.declared.Refusal.the-variants.{IllFormed, MemoryLength, UnknownOperation, OperandOutside, BitNotAllowed, BankOpen, BankClosed}
-use Rattle.numbers.specs.Numbers.{whenDone}
-use Rattle.chip.specs.Calls.{callGiven, chipOf, memoryOf}
-use Rattle.runs.specs.declared.Ran.{Ran}
-use Rattle.runs.specs.Runs.{callsIn, callAt, refusals, nextRan, ranFrom, memoryLeft}
+use Rattle.chip.specs.Calls.{chipOf, memoryOf}
+use Rattle.runs.specs.Runs.{callsIn, callAt, toldBy, Left, left, ranOf, roomFor}
+use Rattle.runs.proofs.Tellings.{told-length, all-stored}
 
 -- ---- six at a time
 
@@ -37,61 +31,56 @@ calls-more l at h = rw (
   one l (at + 5) (at + 6) (omega arith) (omega arith),
 )
 
--- fewer than six are no call
-pub calls-none : (l : List ℕ) → length l < 6 → callsIn l ≡ []
+-- there is a call for each six, and none for fewer
+pub calls-counted : (l : List ℕ) → length (callsIn l) ≡ length l / 6
 unfolding callsIn
-calls-none [] h = refl
-calls-none (op ∷ []) h = refl
-calls-none (op ∷ a ∷ []) h = refl
-calls-none (op ∷ a ∷ b ∷ []) h = refl
-calls-none (op ∷ a ∷ b ∷ c ∷ []) h = refl
-calls-none (op ∷ a ∷ b ∷ c ∷ d ∷ []) h = refl
-calls-none (op ∷ a ∷ b ∷ c ∷ d ∷ given ∷ rest) h = absurd (omega arith)
+calls-counted [] = refl
+calls-counted (op ∷ []) = refl
+calls-counted (op ∷ a ∷ []) = refl
+calls-counted (op ∷ a ∷ b ∷ []) = refl
+calls-counted (op ∷ a ∷ b ∷ c ∷ []) = refl
+calls-counted (op ∷ a ∷ b ∷ c ∷ d ∷ []) = refl
+calls-counted (op ∷ a ∷ b ∷ c ∷ d ∷ given ∷ rest) = omega (arith, calls-counted rest)
 
--- ---- one call more
+-- there is room where five times as many are lent
+pub room-told : (numbers told : List ℕ) → roomFor numbers told ≡ true → length told ≡ 5 * (length numbers / 6)
+unfolding roomFor
+room-told numbers told e = eqb-true _ _ e ∙ ap (λ (n : ℕ). 5 * n) (calls-counted numbers)
 
--- what a call gave, and the count with it
-pub is-next : (ran : Ran) (memory : List ℕ) (x : Call) (made : Answered) (count : ℕ) → givenBack (made .answer) ≡ callGiven (ran .chip) memory x
-    → made .chip ≡ chipOf (ran .chip) memory x → count ≡ ran .refused + refusals (givenBack (made .answer))
-    → record { chip = made .chip; refused = count } ≡ nextRan ran memory x
-unfolding nextRan
-is-next ran memory x made count e f q = rw (q, e, f)
-
-pub counts-done : (n : ℕ) (a : Answer) (value : ℕ) (pass written : Bool) → a ≡ Done value pass written → n ≡ n + refusals (givenBack a)
-unfolding refusals
-counts-done n a value pass written e = rw e (omega arith)
-
-pub counts-refused : (n : ℕ) (a : Answer) (why : Refusal) → a ≡ Refused why → n + 1 ≡ n + refusals (givenBack a)
-unfolding refusals
-counts-refused n a why e = rw e (one why)
+calls-none : (l : List ℕ) → length l < 6 → callsIn l ≡ []
+calls-none l h = go (callsIn l) (omega (arith, calls-counted l))
   where
-    one : (why : Refusal) → n + 1 ≡ n + whenDone (refusalNumber why) 0 1
-    one IllFormed = refl
-    one MemoryLength = refl
-    one UnknownOperation = refl
-    one OperandOutside = refl
-    one BitNotAllowed = refl
-    one BankOpen = refl
-    one BankClosed = refl
+    go : (calls : List Call) → length calls ≡ 0 → calls ≡ []
+    go [] e = refl
+    go (x ∷ xs) e = absurd (omega arith)
 
-one-at-most : (g : GivenBack) → refusals g ≤ 1
-unfolding refusals
-one-at-most g = go (g .number)
-  where
-    go : (k : ℕ) → whenDone k 0 1 ≤ 1
-    go zero = omega arith
-    go (suc k) = omega arith
+-- ---- the calls from the i-th on, over what those before it left and told
 
--- ---- one turn of the run: what is left to do from the new place gives what was left to do from the old one
+unfoldable pub goes : List ℕ → ℕ → Left → Left
+goes numbers i was =
+    let rest = ranOf (was .chip) (was .memory) (callsIn (drop (6 * i) numbers)) in
+    left (rest .chip) (rest .memory) (sets (was .told) (5 * i) (rest .told))
 
-pub turn : (numbers memory memory' : List ℕ) (at : ℕ) (ran ran' : Ran) (x : Call) → at + 6 ≤ length numbers → x ≡ callAt numbers at
-    → ran' ≡ nextRan ran memory x → memory' ≡ memoryOf (ran .chip) memory x
-    → (ranFrom ran' memory' (callsIn (drop (at + 6) numbers)) ≡ ranFrom ran memory (callsIn (drop at numbers)))
-    × (memoryLeft (ran' .chip) memory' (callsIn (drop (at + 6) numbers)) ≡ memoryLeft (ran .chip) memory (callsIn (drop at numbers)))
-    × (ran' .refused ≤ ran .refused + 1)
-unfolding ranFrom memoryLeft nextRan
-turn numbers memory memory' at ran ran' x h q e e' = (
-  rw (e, e', q, calls-more numbers at h),
-  rw (e, e', q, calls-more numbers at h),
-  rw e (omega (arith, one-at-most (callGiven (ran .chip) memory x))),
-)
+-- from the first on, where there is room for all that is told
+pub goes-first : (numbers : List ℕ) (was : Left) → roomFor numbers (was .told) ≡ true
+    → goes numbers 0 was ≡ ranOf (was .chip) (was .memory) (callsIn numbers)
+unfolding goes roomFor
+goes-first numbers was room =
+    let ran = ranOf (was .chip) (was .memory) (callsIn numbers) in
+    ap (λ (l : List ℕ). left (ran .chip) (ran .memory) l)
+    (all-stored (was .told) (ran .told) (eqb-true _ _ room ∙ sym (told-length (was .chip) (was .memory) (callsIn numbers))))
+
+-- one turn
+pub goes-next : (numbers : List ℕ) (i : ℕ) (was : Left) (x : Call) → 6 * i + 6 ≤ length numbers → x ≡ callAt numbers (6 * i)
+    → goes numbers (i + 1) (left (chipOf (was .chip) (was .memory) x) (memoryOf (was .chip) (was .memory) x) (sets (was .told) (5 * i) (toldBy (was .chip) (was .memory) x)))
+    ≡ goes numbers i was
+unfolding goes ranOf toldBy
+goes-next numbers i was x h q =
+    let six : 6 * (i + 1) ≡ 6 * i + 6 = omega arith in
+    let five : 5 * (i + 1) ≡ suc (suc (suc (suc (suc (5 * i))))) = omega arith in
+    rw (six, five, q, calls-more numbers (6 * i) h)
+
+-- past the last
+pub goes-last : (numbers : List ℕ) (i : ℕ) (was : Left) → i ≡ length numbers / 6 → goes numbers i was ≡ was
+unfolding goes ranOf
+goes-last numbers i was e = rw (calls-none (drop (6 * i) numbers) (simp length-drop (omega arith)))

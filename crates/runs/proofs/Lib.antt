@@ -1,2 +1,4 @@
+pub mod Tellings
 pub mod EachCall
 pub mod Drawn
+pub mod AtTheDoor

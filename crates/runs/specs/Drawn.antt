@@ -1,26 +1,31 @@
--- Demand 3 for what `run` leaves, in a caller's words: a chip made fresh with P, a memory lent to it, and a list of calls. Assumes nothing.
+-- Demand 3 for what a run tells and leaves, in a caller's words: a chip made fresh with P, a memory lent to it, and a list of calls.
+-- Assumes nothing.
 use mathlib.Core.Path.{_≡_}
-use mathlib.Core.List.{List, [], _∷_}
+use mathlib.Core.List.{List, [], _∷_, _++_}
 use Prim.Native.Nat.{ℕ, _≤_}
-use lib.ListN.{length}
+use lib.ListN.{length, getD, set, take, drop}
 use Rattle.layout.specs.Memory.{size}
-use Rattle.chip.specs.declared.Chip.{Chip}
 use Rattle.chip.specs.declared.Call.{Call}
 use Rattle.chip.specs.State.{slots, freshOf}
 use Rattle.chip.specs.Operations.{operation}
-use Rattle.chip.specs.Calls.{callGiven, chipOf, memoryOf}
+use Rattle.chip.specs.Answers.{GivenBack}
 use Rattle.chip.specs.Listing.{listing}
 use Rattle.picture.specs.Book.{Book, NoneWaits}
 use Rattle.picture.specs.Flat.{Flat}
-use Rattle.picture.specs.Drawing.{Seen, seen, start, after, flatSeen, Fair, Bytes}
+use Rattle.lists.specs.Words.{Bytes}
+use Rattle.picture.specs.Drawing.{Seen, valueSeen, start, after, flatSeen, Fair}
 use Rattle.picture.specs.Samples.{panes}
-use Rattle.runs.specs.Runs.{ranOf, memoryLeft}
+use Rattle.runs.specs.Runs.{fiveNumbers, ranOf}
 
--- what a caller is given for each call, and the hit flag after it
-unfoldable pub seenOf : Chip → List ℕ → List Call → List Seen
-seenOf chip memory [] = []
-seenOf chip memory (x ∷ xs) =
-    seen (operation x) (callGiven chip memory x) (chipOf chip memory x .control) ∷ seenOf (chipOf chip memory x) (memoryOf chip memory x) xs
+-- what is compared of what is told: of each five numbers, all but the second of a write-back, its value
+unfoldable pub compared : List Call → List ℕ → List ℕ
+compared [] told = []
+compared (x ∷ xs) told = set (take 5 told) 1 (valueSeen (operation x) (getD told 1 0)) ++ compared xs (drop 5 told)
+
+-- what is seen, as five numbers a call
+unfoldable pub seenNumbers : List Seen → List ℕ
+seenNumbers [] = []
+seenNumbers (s ∷ rest) = fiveNumbers (s .given) (s .hit) ++ seenNumbers rest
 
 module _ (P : ℕ) (memory : List ℕ) (calls : List Call) where
   -- "Suppose ..": the calls keep to the premises
@@ -37,28 +42,30 @@ module _ (P : ℕ) (memory : List ℕ) (calls : List Call) where
   abbrev pub bookAfter : Book
   bookAfter = after slots (start slots P memory) calls .book
 
--- the demand for `run`
-unfoldable pub RunDraws : Type 0
-RunDraws = (P : ℕ) (memory : List ℕ) (calls : List Call)
-    -- "Start fresh over any memory": bytes, as lent memory always is, and of the length without which every call is refused
-    → Bytes memory
-    → length memory ≡ size P
+-- 01, Numbers: 0 is done
+abbrev pub IsDone : GivenBack → Type 0
+IsDone g = g .number ≡ 0
+
+-- the demand for what calls told and left. (Lent memory is of bytes by its type)
+unfoldable pub IsPicture : ℕ → List ℕ → List Call → List ℕ → List ℕ → Type 0
+IsPicture P memory calls told left =
+    -- "Start fresh over any memory": of the length without which every call is refused
+    length memory ≡ size P
     → Supposed P memory calls
     -- "every read, pass and hit equals the flat picture's"
-    → (seenOf (freshOf P) memory calls ≡ seenFlat P memory calls)
-    × (ranOf (freshOf P) memory calls .chip .control .hit ≡ flatAfter P memory calls .control .hit)
+    → (compared calls told ≡ seenNumbers (seenFlat P memory calls))
     -- "and once no bytes wait, memory is that picture in every byte"
-    × (NoneWaits (bookAfter P memory calls) → memoryLeft (freshOf P) memory calls ≡ flatAfter P memory calls .picture)
+    × (NoneWaits (bookAfter P memory calls) → left ≡ flatAfter P memory calls .picture)
 
--- the demand's end for the memory that calls left: the lent memory is of bytes by its type, the rest is supposed
-unfoldable pub IsPicture : ℕ → List ℕ → List Call → List ℕ → Type 0
-IsPicture P memory calls left =
-    length memory ≡ size P → Supposed P memory calls → NoneWaits (bookAfter P memory calls) → left ≡ flatAfter P memory calls .picture
+-- the demand for every run
+unfoldable pub RunDraws : Type 0
+RunDraws = (P : ℕ) (memory : List ℕ) (calls : List Call) → Bytes memory
+    → IsPicture P memory calls (ranOf (freshOf P) memory calls .told) (ranOf (freshOf P) memory calls .memory)
 
 -- and for the lists of Samples.antt, which keep to the premises and end with no bytes waiting: nothing is left to suppose
 unfoldable pub LeavesPicture : ℕ → List Call → Type 0
 LeavesPicture P calls =
-    (memory : List ℕ) → Bytes memory → length memory ≡ size P → memoryLeft (freshOf P) memory calls ≡ flatAfter P memory calls .picture
+    (memory : List ℕ) → Bytes memory → length memory ≡ size P → ranOf (freshOf P) memory calls .memory ≡ flatAfter P memory calls .picture
 
 unfoldable pub SamplesDrawn : Type 0
 SamplesDrawn = ((P : ℕ) → 1 ≤ P → P ≤ 257 → LeavesPicture P listing) × ((P : ℕ) → 2 ≤ P → P ≤ 257 → LeavesPicture P panes)
