@@ -18,7 +18,7 @@ use Rattle.chip.specs.declared.Answer.the-variants.{Refused}
 use Rattle.chip.specs.declared.Refusal.{Refusal}
 use Rattle.chip.specs.declared.Call.{Call}
 use Rattle.chip.specs.State.{slots}
-use Rattle.chip.specs.Answers.{numbered, givenBack, packed}
+use Rattle.chip.specs.Answers.{valued, numbered, givenBack, packed}
 use Rattle.chip.specs.Calls.{callGiven}
 use Rattle.chip.specs.Promises.{NumbersGiven}
 use Rattle.chip.proofs.NumbersGiven as numbers
@@ -26,7 +26,7 @@ use Rattle.chip.proofs.StateForms as forms
 use Rattle.block.specs.Block.{decodeControl, decode, wellFormedBlock}
 use Rattle.block.specs.OnBlock.{blockGiven, blockLineNumber}
 use Rattle.own.proofs.WellFormed.{well-control}
-use Rattle.panel.specs.Packs.{valued, pointValue, pointPacked, columnPacked, columnsPacked}
+use Rattle.panel.specs.Packs.{pointValue, pointPacked, columnPacked, columnsPacked}
 
 -- ---- a call
 

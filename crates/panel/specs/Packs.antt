@@ -6,13 +6,9 @@ use Rattle.numbers.specs.Numbers.{whenDone}
 use Rattle.layout.specs.Memory.{lineStart}
 use Rattle.layout.specs.Screen.{pointGiven}
 use Rattle.columns.specs.Columns.{columnGiven, columnsNumber}
-use Rattle.chip.specs.Answers.{GivenBack, numbered, packed}
+use Rattle.chip.specs.Answers.{valued, numbered, packed}
 use Rattle.block.specs.Block.{decodeControl}
 use Rattle.block.specs.OnBlock.{freshBlockNumber, blockLineNumber}
-
--- a number and a value: pass and written are 0 except for data writes
-abbrev pub valued : ℕ → ℕ → GivenBack
-valued number value = record { number = number; value = value; pass = 0; written = 0 }
 
 -- making a fresh chip
 unfoldable pub freshPacked : List ℕ → ℕ → ℕ

@@ -9,10 +9,10 @@ ghost use mathlib.Core.Path.{_≡_};
 ghost use Prim.Native.Nat.{_<_};
 ghost use lib.ListN.{length};
 ghost use Rattle.columns.specs.Columns.{columnsLeft};
-ghost use Rattle.chip.specs.Answers.{givenBack, packed};
+ghost use Rattle.chip.specs.Answers.{valued, givenBack, packed};
 ghost use Rattle.chip.specs.Operations.{ask};
 ghost use Rattle.block.specs.OnBlock.{callNumber, blockAfter, blockMemory, freshBlock};
-ghost use Rattle.panel.specs.Packs.{valued, freshPacked, lineOffset, pointValue, pointPacked, columnPacked, columnsPacked};
+ghost use Rattle.panel.specs.Packs.{freshPacked, lineOffset, pointValue, pointPacked, columnPacked, columnsPacked};
 
 // Value in bits 31:0, pass in 32, written in 33.
 fn pack_done(value: u32, pass: bool, written: bool) -> u64

@@ -1,7 +1,7 @@
 -- `panel::panel_point`: each case of the answer, packed; a point that is given fits its places. Assumes nothing.
 use Rattle.panel.proofs.Packings.{point-told}
-use Rattle.panel.specs.Packs.{valued, pointValue}
-use Rattle.chip.specs.Answers.{packed}
+use Rattle.panel.specs.Packs.{pointValue}
+use Rattle.chip.specs.Answers.{valued, packed}
 use Rattle.layout.specs.Screen.{pointedGiven}
 use Rattle.layout.proofs.Points.{given-inside}
 use Prim.Native.Nat.{ℕ}

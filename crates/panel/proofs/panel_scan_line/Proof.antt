@@ -9,11 +9,11 @@ use Rattle.numbers.specs.Numbers.{whenDone}
 use Rattle.layout.specs.Memory.{size, lineStart}
 use Rattle.numbers.proofs.Tests.{test-holds, test-fails}
 use Rattle.layout.proofs.ScanLines as lines
-use Rattle.chip.specs.Answers.{packed}
+use Rattle.chip.specs.Answers.{valued, packed}
 use Rattle.block.specs.Block.{wellFormedBlock}
 use Rattle.block.specs.OnBlock.{blockLineNumber}
 use Rattle.own.proofs.WellFormed.{well-long, pages-in}
-use Rattle.panel.specs.Packs.{valued, lineOffset}
+use Rattle.panel.specs.Packs.{lineOffset}
 use Rattle.panel.proofs.Packings.{line-told, line-lt}
 use Rattle.panel.proofs.panel_scan_line.Statement.{statement}
 use Rattle.panel.proofs.panel_scan_line.Tie as tie
