@@ -1,12 +1,12 @@
-/* loads.c: three loads over a chip of 257 pages, for the library and for a plain C version (tests/model.c).
+/* loads.c: five loads over a chip of 257 pages, for the library and for a plain C version (tests/model.c).
  *
  *     loads                       for each load the ratio of times, library : plain C, measured in this run
  *     loads LOAD WHO CALLS        makes so many calls of one load with one implementation and nothing else, so that the
  *                                 difference of two instruction counts is that of the calls between them
  *
- * LOAD is redraw, writes or registers; redraw ends with its last whole block, so up to ten calls early. WHO is library, plain
- * or loop; loop is a call that does nothing, and so what the loads' own loops cost. A load that is not answered as it must be
- * ends the program with status 1. */
+ * LOAD is redraw, writes, registers, reads or scan; redraw ends with its last whole block, so up to ten calls early, and scan with
+ * its last whole line, up to forty. WHO is library, plain or loop; loop is a call that does nothing, and so what the loads' own
+ * loops cost. A load that is not answered as it must be ends the program with status 1. */
 #define _POSIX_C_SOURCE 200809L
 #include <stdio.h>
 #include <stdlib.h>
@@ -45,6 +45,7 @@ struct bench {
     uint8_t *memory;
     unsigned long left; /* calls still to make */
     uint64_t any, all;  /* bits that any answer had, and that all answers of data writes had */
+    uint32_t other;     /* bits in which any value was another than it must be */
 };
 
 static void stop(const char *why)
@@ -67,21 +68,33 @@ static void write_word(struct bench *bench, uint32_t word, uint32_t data)
     bench->all &= make(bench, PANEL_STATEFUL_WRITE, 0, word, PANEL_ALL_BYTES, PANEL_PASS_IN, data);
 }
 
+/* A call whose value is known. */
+static void get_value(struct bench *bench, uint32_t op, uint32_t a, uint32_t b, uint32_t value)
+{
+    bench->other |= panel_value(make(bench, op, a, b, 0, 0, 0)) ^ value;
+}
+
 /* A fresh chip for this implementation. It is made by the library: only calls are measured. */
 static void start(struct bench *bench, const struct who *who, uint8_t *memory)
 {
     bench->call = who->call;
     bench->memory = memory;
-    bench->any = 0;
+    bench->any = bench->other = 0;
     bench->all = ~(uint64_t)0;
     if (panel_number(panel_fresh(bench->state, sizeof bench->state, PAGES)) != PANEL_DONE)
         stop("no fresh chip");
 }
 
+/* A call that sets a load up, and is not counted. */
+static void set_up(struct bench *bench, uint32_t op, uint32_t a, uint32_t b, uint32_t c, uint32_t data)
+{
+    bench->left++;
+    make(bench, op, a, b, c, 0, data);
+}
+
 static void set_register(struct bench *bench, uint32_t number, uint32_t value)
 {
-    bench->left++; /* setting up is not counted */
-    make(bench, PANEL_WRITE_REGISTER, number, 0, 0, 0, value);
+    set_up(bench, PANEL_WRITE_REGISTER, number, 0, 0, value);
 }
 
 static void check(const struct bench *bench)
@@ -90,6 +103,8 @@ static void check(const struct bench *bench)
         stop("a call was refused");
     if (!panel_pass(bench->all) || !panel_written(bench->all))
         stop("a data write did not pass and write");
+    if (bench->other != 0 && bench->call != no_call)
+        stop("a value is not the one that it must be");
 }
 
 /* ---- The loads ---- */
@@ -140,13 +155,47 @@ static void registers(struct bench *bench)
     }
 }
 
+/* Data reads alone, of eight words that are set before. */
+static void reads(struct bench *bench)
+{
+    for (uint32_t word = 0; word < PANEL_WORDS; word++)
+        set_up(bench, PANEL_STATELESS_WRITE, 0, word, PANEL_ALL_BYTES, word * UINT32_C(0x01020304));
+    for (uint32_t n = 0; bench->left > 0; n++)
+        get_value(bench, PANEL_DATA_READ, 0, n % PANEL_WORDS, n % PANEL_WORDS * UINT32_C(0x01020304));
+}
+
+/* A line of the display: a transfer into the selected buffer, and forty clocks put it out. */
+static void scan_line(struct bench *bench, uint32_t bank, uint32_t line)
+{
+    const uint8_t *shown = bench->memory + bank * PANEL_PAGE_BYTES * PAGES + line * PANEL_LINE_BYTES;
+    make(bench, PANEL_VIDEO_TRANSFER, bank, line, 0, 0, 0);
+    for (uint32_t n = 0; n < PANEL_VIDEO_CLOCKS; n++)
+        get_value(bench, PANEL_VIDEO_CLOCK, 0, 0, get16(shown + 2 * n));
+}
+
+/* Each line of page 0 of two banks, which alternate as the selected buffer does, again and again. */
+static void scan(struct bench *bench)
+{
+    for (uint32_t bank = 0; bank < 2; bank++) {
+        uint8_t *page = bench->memory + bank * PANEL_PAGE_BYTES * PAGES;
+        set_up(bench, PANEL_ACCESS_PAGE, bank, 0, 0, 0);
+        for (uint32_t i = 0; i < PANEL_PAGE_BYTES; i++)
+            page[i] = (uint8_t)(i * 7 + i / PANEL_LINE_BYTES + bank);
+    }
+    for (uint32_t n = 0; bench->left > PANEL_VIDEO_CLOCKS; n++)
+        scan_line(bench, n % 2, n / 2 % PANEL_LINES);
+}
+
 static const struct load {
     const char *name;
     void (*run)(struct bench *bench);
     unsigned long calls; /* in a round that is timed: one screen for redraw */
-} loads[] = {
-    {"redraw", redraw, 4 * SCREEN_PAGES *(2 + 40 * 10)}, {"writes", writes, 1000000}, {"registers", registers, 1000000}};
-enum { LOADS = 3 };
+} loads[] = {{"redraw", redraw, 4 * SCREEN_PAGES *(2 + 40 * 10)},
+             {"writes", writes, 1000000},
+             {"registers", registers, 1000000},
+             {"reads", reads, 1000000},
+             {"scan", scan, 41 * 25000}};
+enum { LOADS = sizeof loads / sizeof *loads };
 
 static void run(const struct load *load, const struct who *who, uint8_t *memory, unsigned long calls)
 {
@@ -195,6 +244,8 @@ static void print_ratio(const struct load *load, uint8_t *memory)
 
 /* ---- The program ---- */
 
+static const char usage[] = "usage: loads [redraw|writes|registers|reads|scan library|plain|loop CALLS]";
+
 static void one(const char *load, const char *who, unsigned long calls, uint8_t *memory)
 {
     for (int l = 0; l < LOADS; l++)
@@ -203,7 +254,7 @@ static void one(const char *load, const char *who, unsigned long calls, uint8_t 
                 run(&loads[l], &whos[w], memory, calls);
                 return;
             }
-    stop("usage: loads [redraw|writes|registers library|plain|loop CALLS]");
+    stop(usage);
 }
 
 int main(int argc, char **argv)
@@ -217,7 +268,7 @@ int main(int argc, char **argv)
         for (int l = 0; l < LOADS; l++)
             print_ratio(&loads[l], memory);
     else
-        stop("usage: loads [redraw|writes|registers library|plain|loop CALLS]");
+        stop(usage);
     free(memory);
     return 0;
 }

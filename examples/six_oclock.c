@@ -1,10 +1,11 @@
 /* six_oclock.c: the drying room's panel at six in the morning, drawn through the chip.
  *
  * The server draws the day's curves in planes 0 to 5 of each pixel, the operator acknowledges in planes 6 and 7. The display
- * reads scan lines; the picture is left as six_oclock.png (or the file named as argument). Then the mistakes of the trial
- * version are made on purpose: a slot that was loaded before the operator's mark is written back after it. Refused, or written
- * back under the server's planes, it leaves every mark. Written back unmasked it overwrites them: the chip does as it is told, and
- * that no slot is written back over newer bytes is the drawing program's duty (docs/DUTIES.md). */
+ * reads scan lines; the picture is left as six_oclock.png (or the file named as argument). The chip then puts the screen out by
+ * video transfers and clocks, which must give the same picture. Last, the mistakes of the trial version are made on purpose: a
+ * slot that was loaded before the operator's mark is written back after it. Refused, or written back under the server's planes,
+ * it leaves every mark. Written back unmasked it overwrites them: the chip does as it is told, and that no slot is written back
+ * over newer bytes is the drawing program's duty (docs/DUTIES.md). */
 #include <errno.h>
 #include <stdio.h>
 #include <stdlib.h>
@@ -207,6 +208,14 @@ static unsigned long show(const struct surface *s, uint8_t *picture)
     return lines;
 }
 
+static void must_be(bool fact, const char *what)
+{
+    if (!fact) {
+        fprintf(stderr, "wrong: %s\n", what);
+        exit(1);
+    }
+}
+
 static uint8_t *room_for(size_t len)
 {
     uint8_t *bytes = malloc(len);
@@ -217,17 +226,63 @@ static uint8_t *room_for(size_t len)
     return bytes;
 }
 
-static void save_picture(const struct surface *s, const char *path)
+static void save_picture(const uint8_t *picture, const char *path)
 {
-    uint8_t *picture = room_for((size_t)PANEL_SCREEN_WIDTH * PANEL_SCREEN_HEIGHT), colours[256][3];
-    unsigned long lines = show(s, picture);
+    uint8_t colours[256][3];
     make_colours(colours);
     if (!png_write(path, PANEL_SCREEN_WIDTH, PANEL_SCREEN_HEIGHT, picture, colours)) {
         fprintf(stderr, "%s cannot be written: %s\n", path, strerror(errno));
         exit(1);
     }
-    free(picture);
+}
+
+/* ---- The display, as the chip feeds it ---- */
+
+enum { LINES_ACROSS = PANEL_SCREEN_WIDTH / PANEL_LINE_BYTES, SCREEN_LINES = LINES_ACROSS * PANEL_SCREEN_HEIGHT };
+
+/* Scan line n of the screen, from left to right and then down, into the video buffer of its bank. */
+static void transfer(struct surface *s, uint32_t n)
+{
+    uint32_t at = done(panel_point(SURFACE_PAGES, n % LINES_ACROSS * PANEL_LINE_BYTES, n / LINES_ACROSS), "a point");
+    surface_open(s, panel_point_bank(at), panel_point_page(at));
+    surface_call(s, PANEL_VIDEO_TRANSFER, panel_point_bank(at), panel_point_line(at), 0, 0, 0, "video transfer");
+}
+
+/* The selected video buffer, two pixels a clock; the last clock selects the other one. */
+static void clock_out(struct surface *s, uint8_t *pixels)
+{
+    for (uint32_t n = 0; n < PANEL_VIDEO_CLOCKS; n++) {
+        uint32_t two = surface_call(s, PANEL_VIDEO_CLOCK, 0, 0, 0, 0, 0, "video clock");
+        pixels[2 * n] = (uint8_t)two;
+        pixels[2 * n + 1] = (uint8_t)(two >> 8);
+    }
+}
+
+/* The banks alternate along the screen, and with them the buffers: while one is put out, the other takes the next line. */
+static void put_out(struct surface *s, uint8_t *picture)
+{
+    transfer(s, 0);
+    for (uint32_t n = 0; n < SCREEN_LINES; n++) {
+        if (n + 1 < SCREEN_LINES)
+            transfer(s, n + 1);
+        clock_out(s, picture + n * PANEL_LINE_BYTES);
+    }
+}
+
+/* Shows the picture both ways: they must be the same. */
+static void show_picture(struct surface *s, const char *path)
+{
+    size_t len = (size_t)PANEL_SCREEN_WIDTH * PANEL_SCREEN_HEIGHT;
+    uint8_t *picture = room_for(len), *clocked = room_for(len);
+    unsigned long lines = show(s, picture);
+    save_picture(picture, path);
     printf("   %lu scan lines handed to the display; the picture is %s\n", lines, path);
+    put_out(s, clocked);
+    must_be(memcmp(picture, clocked, len) == 0, "what the video clocks put out is the picture of the scan lines");
+    printf("   %u video transfers and %u video clocks put out the same %zu bytes\n", (unsigned)SCREEN_LINES,
+           SCREEN_LINES * PANEL_VIDEO_CLOCKS, len);
+    free(picture);
+    free(clocked);
 }
 
 /* ---- The trial version's mistakes ---- */
@@ -280,14 +335,6 @@ static unsigned marked_in(const struct surface *s, struct place p)
         marked += marked_bytes(s->memory + done(answer, "a scan line") + p.block / 4 * 8, 8);
     }
     return marked;
-}
-
-static void must_be(bool fact, const char *what)
-{
-    if (!fact) {
-        fprintf(stderr, "wrong: %s\n", what);
-        exit(1);
-    }
 }
 
 /* After the mark: both slots go back, and one that is loaded anew. Not a byte of memory may change. */
@@ -369,7 +416,7 @@ int main(int argc, char **argv)
     printf("   %u bytes carry a mark\n", marked_bytes(s.memory, memory_len));
 
     printf("4. The display reads the screen\n");
-    save_picture(&s, argc > 1 ? argv[1] : "six_oclock.png");
+    show_picture(&s, argc > 1 ? argv[1] : "six_oclock.png");
 
     printf("5. What lost the marks in the trial version, tried on this one\n");
     write_stale_back(&s, place);

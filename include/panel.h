@@ -8,6 +8,9 @@
  *   3. write words in the slot   PANEL_STATEFUL_WRITE slot, word, byte enables, PANEL_PASS_IN, data
  *   4. write the slot back       PANEL_MASKED_WRITE   bank, block, slot; then PANEL_PRECHARGE closes the page
  *
+ * A display reads the picture as scan lines of memory (panel_scan_line), or as the chip puts it out: PANEL_VIDEO_TRANSFER takes
+ * a scan line into one of two video buffers, and each PANEL_VIDEO_CLOCK gives two pixels of it.
+ *
  * The program owns all bytes. It lends two buffers with every call, the state block and the memory; the library keeps
  * nothing of its own, so any number of chips can be used side by side.
  *
@@ -34,12 +37,12 @@ extern "C" {
 /* ---- Version: the major number is raised by each growth of the state block, and by all else that a caller must follow; the
  * minor one by what is added beside. A library whose block has another length refuses this header's with PANEL_ILL_FORMED. ---- */
 
-#define PANEL_VERSION_MAJOR 1
+#define PANEL_VERSION_MAJOR 2
 #define PANEL_VERSION_MINOR 0
 
 /* ---- Sizes ---- */
 
-#define PANEL_STATE_BYTES 348u /* the state block */
+#define PANEL_STATE_BYTES 512u /* the state block */
 #define PANEL_PAGES_MIN 1u     /* pages in each bank: 1 to 257; the whole screen needs 256, page 256 is off screen */
 #define PANEL_PAGES_MAX 257u
 #define PANEL_BANKS 4u
@@ -49,7 +52,9 @@ extern "C" {
 #define PANEL_BLOCKS 40u      /* a page is 40 blocks, ten across and four down, counted down each column of four */
 #define PANEL_BLOCK_BYTES 32u /* a block: 4 lines of 8 bytes, which are words 0, 1 / 2, 3 / 4, 5 / 6, 7 */
 #define PANEL_SLOTS 8u
-#define PANEL_WORDS 8u /* words of 32 bits in a block; byte 0 of a word is its bits 7 to 0 */
+#define PANEL_WORDS 8u         /* words of 32 bits in a block; byte 0 of a word is its bits 7 to 0 */
+#define PANEL_VIDEO_BUFFERS 2u /* each holds one scan line */
+#define PANEL_VIDEO_CLOCKS 40u /* video clocks that put out a whole scan line, two bytes each */
 #define PANEL_SCREEN_WIDTH 1280u
 #define PANEL_SCREEN_HEIGHT 1024u
 #define PANEL_COLUMNS_BYTES 2560u /* the column table: 1,280 numbers of 16 bits */
@@ -58,8 +63,8 @@ extern "C" {
 #define PANEL_MEMORY_BYTES(pages) ((size_t)PANEL_BANKS * PANEL_PAGE_BYTES * (size_t)(pages))
 
 /* ---- Operations of panel_call: its op, with the operands that it takes ----
- * Banks are 0 to 3, pages 0 to P - 1 on a chip of P pages in a bank, blocks 0 to 39, slots 0 to 7, words 0 to 7, registers 1 to 7. Operands
- * that are not named must be 0, and so must data where it is not named. */
+ * Banks are 0 to 3, pages 0 to P - 1 on a chip of P pages in a bank, blocks 0 to 39, slots 0 to 7, words 0 to 7, registers
+ * 1 to 7, lines 0 to 15. Operands that are not named must be 0, and so must data where it is not named. */
 
 enum panel_operation {
     PANEL_ACCESS_PAGE = 1,       /* a bank, b page: opens the page of a closed bank */
@@ -76,7 +81,9 @@ enum panel_operation {
     PANEL_REPLACE_TAG = 12,    /* a slot, data: the slot's tag becomes data */
     PANEL_OR_TAG = 13,         /* a slot, data: data's ones join the slot's tag */
     PANEL_WRITE_REGISTER = 14, /* a register, data */
-    PANEL_READ_REGISTER = 15   /* a register; value: what it holds */
+    PANEL_READ_REGISTER = 15,  /* a register; value: what it holds */
+    PANEL_VIDEO_TRANSFER = 16, /* a bank, b line: copies that scan line of the open page into the bank's video buffer */
+    PANEL_VIDEO_CLOCK = 17     /* value: the next two bytes of the selected video buffer, the lower column in bits 7:0 */
 };
 
 /* The four data writes. OLD is the word at (slot, word), NEW is data or the constant source. Byte n is written where bit n of
@@ -90,18 +97,25 @@ enum panel_operation {
 #define PANEL_ALL_BYTES 15u /* byte enables: all four bytes of the word */
 #define PANEL_PASS_IN 3u    /* pass-in: both inputs high, as a stateful write needs */
 
-/* ---- Numbers: what panel_number gives. The first that applies is given, in this order. ---- */
+/* The two video calls. Banks 0 and 2 feed video buffer 0, banks 1 and 3 feed buffer 1. Forty clocks put out the selected
+ * buffer, and the fortieth selects the other one. So a display transfers the next scan line into one buffer while the other is
+ * put out: along a line of the screen the banks alternate between them. The selected buffer takes a transfer only before its
+ * first clock. A transfer copies what memory holds then: bytes that wait in the pixel buffer are not in it, and what is
+ * written to memory later does not show. */
+
+/* ---- Numbers: what panel_number gives. The first that applies is given, in this order. (9 is the small program's.) ---- */
 
 enum panel_answer_number {
     PANEL_DONE = 0,
-    PANEL_ILL_FORMED = 1,    /* the state block is not 348 bytes, or not a chip's state */
+    PANEL_ILL_FORMED = 1,    /* the state block is not 512 bytes, or not a chip's state */
     PANEL_MEMORY_LENGTH = 2, /* memory is not PANEL_MEMORY_BYTES(pages) long, for the pages that the state names */
-    PANEL_NO_OPERATION = 3,  /* op is not 1 to 15 */
+    PANEL_NO_OPERATION = 3,  /* op is not 1 to 17 */
     PANEL_OUT_OF_RANGE = 4,  /* an operand out of its range, or one not used (or data not used) that is not 0 */
     PANEL_REGISTER_BITS = 5, /* a register written with a bit that it does not have */
     PANEL_BANK_OPEN = 6,     /* access page on an open bank */
-    PANEL_BANK_CLOSED = 7,   /* duplicate page, read block or write block on a closed bank */
-    PANEL_NO_POINT = 8       /* no such screen point, or it lies in a page that this chip does not have */
+    PANEL_BANK_CLOSED = 7,   /* duplicate page, read block, write block or video transfer on a closed bank */
+    PANEL_NO_POINT = 8,      /* no such screen point, or it lies in a page that this chip does not have */
+    PANEL_BUFFER_IN_USE = 10 /* video transfer into the selected buffer while the video counter is not 0 */
 };
 
 /* ---- Registers: a of PANEL_WRITE_REGISTER and PANEL_READ_REGISTER ---- */
@@ -174,23 +188,26 @@ enum panel_raster {
 
 /* ---- The state block: little endian. Only panel_fresh and panel_call write it; store and restore it whole. ---- */
 
-#define PANEL_AT_BANKS 16u     /* four open pages, 16 bits each; PANEL_CLOSED is none */
-#define PANEL_AT_REGISTERS 24u /* seven registers, 32 bits each, as all that follows */
-#define PANEL_AT_FLAGS 52u     /* bit 0 picking, bit 1 hit */
-#define PANEL_AT_COUNTER 56u   /* calls done; after FFFFFFFFh comes 0 */
-#define PANEL_AT_TAGS 60u      /* eight tags; bit 4 * word + n is byte n of that word */
-#define PANEL_AT_PIXELS 92u    /* eight slots of 32 bytes */
+#define PANEL_AT_BANKS 16u          /* four open pages, 16 bits each; PANEL_CLOSED is none */
+#define PANEL_AT_REGISTERS 24u      /* seven registers, 32 bits each, as flags, counter and tags */
+#define PANEL_AT_FLAGS 52u          /* bit 0 picking, bit 1 hit */
+#define PANEL_AT_COUNTER 56u        /* calls done; after FFFFFFFFh comes 0 */
+#define PANEL_AT_TAGS 60u           /* eight tags; bit 4 * word + n is byte n of that word */
+#define PANEL_AT_PIXELS 92u         /* eight slots of 32 bytes */
+#define PANEL_AT_VIDEO 348u         /* two video buffers of 80 bytes */
+#define PANEL_AT_VIDEO_COUNTER 508u /* 16 bits, 0 to 39: a clock puts out the bytes at twice this and the next */
+#define PANEL_AT_VIDEO_SELECT 510u  /* 16 bits, 0 or 1: the video buffer that is selected */
 #define PANEL_CLOSED 65535u
 
 /* ---- Functions ---- */
 
-/* Makes a fresh chip of so many pages in a bank: all banks closed, registers fresh, pixel buffer and tags 0. What state held
- * before does not matter, and memory is not touched. state_len must be PANEL_STATE_BYTES. Refuses by 1 and 4. */
+/* Makes a fresh chip of so many pages in a bank: all banks closed, registers fresh, all else 0. What state held before does not
+ * matter, and memory is not touched. state_len must be PANEL_STATE_BYTES. Refuses by 1 and 4. */
 uint64_t panel_fresh(uint8_t *state, size_t state_len, uint32_t pages);
 
 /* One operation on the chip: op is one of enum panel_operation, with the operands named there. memory must have
  * PANEL_MEMORY_BYTES(pages) bytes, also for operations that do not touch it. Value, pass and written are 0 where the
- * operation's line names none. Refuses by 1 to 7. */
+ * operation's line names none. Refuses by 1 to 7, and 10. */
 uint64_t panel_call(uint8_t *state, size_t state_len, uint8_t *memory, size_t memory_len, uint32_t op, uint32_t a, uint32_t b,
                     uint32_t c, uint32_t d, uint32_t data);
 
@@ -230,6 +247,7 @@ static inline const char *panel_number_text(uint32_t number)
     case PANEL_BANK_OPEN: return "the bank is open";
     case PANEL_BANK_CLOSED: return "the bank is closed";
     case PANEL_NO_POINT: return "no such screen point on this chip";
+    case PANEL_BUFFER_IN_USE: return "the video buffer is being put out";
     default: return "no number of the library";
     }
 }
@@ -264,6 +282,8 @@ static inline uint32_t panel_open_page(const uint8_t *state, uint32_t bank) /* o
     const uint8_t *at = state + PANEL_AT_BANKS + 2 * bank;
     return at[0] | (uint32_t)at[1] << 8;
 }
+static inline uint32_t panel_video_counter(const uint8_t *state) { return state[PANEL_AT_VIDEO_COUNTER]; }
+static inline uint32_t panel_video_select(const uint8_t *state) { return state[PANEL_AT_VIDEO_SELECT]; }
 
 #ifdef __cplusplus
 }

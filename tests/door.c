@@ -1,4 +1,4 @@
-/* door.c: the C door from outside. The library is compared with the model (plain C, from document 01) and with the flat
+/* door.c: the C door from outside. The library is compared with the model (plain C, from the documents) and with the flat
  * picture of demand 3, over examples, edges, damage and random calls.
  *
  *     door [SEED [COUNT]]     SEED: any number, 1 if not given; COUNT: random calls for a size, 2,000,000 if not
@@ -46,6 +46,7 @@ static void random_run(struct pair *pair, struct source *from, uint8_t *memory, 
     pair_start(pair, state, memory);
     while (pair->call < calls) {
         struct call call = draw_call(from, pair->model.state);
+        note_scan(pair->model.state, pair->memory_len, &call);
         pair_call(pair, &call);
     }
     pair_whole(pair, NULL);
@@ -75,6 +76,7 @@ static void try_each_size(uint64_t seed, unsigned long count)
     for (uint32_t pages = 1; pages <= 257; pages++) {
         try_fresh(pages);
         try_last_lines(pages);
+        try_put_out(pages);
         try_random(pages, seed + pages, count / PART_OF_EACH);
         try_pictures(pages, seed + pages, count / PART_OF_EACH);
     }
@@ -93,6 +95,8 @@ static void try_sizes(uint64_t seed, unsigned long count)
         try_damage(pages, seed);
         say("scan lines", pages, seed);
         try_scan_lines(pages);
+        say("video calls wherever the display is", pages, seed);
+        try_scans(pages);
         say("random calls", pages, seed);
         try_random(pages, seed, calls);
         say("pictures", pages, seed);
@@ -107,17 +111,20 @@ int main(int argc, char **argv)
     printf("door: seed %" PRIu64 ", %lu random calls for a size\n", seed, count);
     say("examples of document 01", 0, seed);
     try_examples();
-    say("sentences of document 01", 0, seed);
+    say("sentences of the documents", 0, seed);
     try_sentences();
+    try_requests();
     say("screen points, all of them, and the column table", 0, seed);
     try_points();
     try_columns();
     say("what demand 3 leaves to the program", 0, seed);
     try_duties();
+    say("stored video counters and selects, all of them", 0, seed);
+    try_stored_scans();
     try_each_size(seed, count);
     try_sizes(seed, count);
-    bool tried = tried_all(), drew = drew_all();
-    if (!tried || !drew) {
+    bool tried = tried_all(), scanned = scanned_all(), drew = drew_all();
+    if (!tried || !scanned || !drew) {
         printf("\nnot everything was tried: see the 0s above\n");
         return 1;
     }

@@ -100,12 +100,14 @@ void draw_state(struct source *from, uint8_t *state, uint32_t pages)
     for (uint32_t bank = 0; bank < 4; bank++)
         if (!one_in(from, 3))
             put16(state + 16 + 2 * bank, draw_page(from, pages));
-    draw_bytes(from, state + 60, MODEL_STATE - 60); /* tags and pixels */
+    draw_bytes(from, state + 60, 508 - 60); /* tags, pixels and video buffers */
     for (uint32_t number = 1; number <= 7; number++)
         put32(state + 24 + 4 * (number - 1),
               draw_register(from, state, number, false) & (number == 6 ? 0x00030707 : 0xFFFFFFFF));
     put32(state + 52, below(from, 4));
     put32(state + 56, one_in(from, 2) ? draw32(from) : PICK(from, carries) - 1 - below(from, 64));
+    put16(state + 508, below(from, MODEL_CLOCKS));
+    put16(state + 510, below(from, 2));
 }
 
 /* ---- Calls ---- */
@@ -148,7 +150,9 @@ struct call draw_operation(struct source *from, const uint8_t *state, uint32_t o
     case 12:
     case 13: return (struct call){op, below(from, 8), 0, 0, 0, draw_word(from)};
     case 14: return (struct call){op, number, 0, 0, 0, draw_register(from, state, number, one_in(from, 8))};
-    default: return (struct call){op, number, 0, 0, 0, 0};
+    case 15: return (struct call){op, number, 0, 0, 0, 0};
+    case 16: return (struct call){op, draw_bank(from, state, false), below(from, 16), 0, 0, 0};
+    default: return (struct call){op, 0, 0, 0, 0, 0};
     }
 }
 
@@ -180,8 +184,8 @@ static void spoil(struct source *from, struct call *call, uint32_t pages)
 
 struct call draw_call(struct source *from, const uint8_t *state)
 {
-    static const uint8_t often[] = {1, 1,  2,  2,  3,  3,  4,  4,  4,  5,  5,  5,  6,  6,  7,  7,  8,  9,
-                                    9, 10, 10, 11, 11, 11, 11, 11, 11, 11, 12, 13, 14, 14, 14, 14, 14, 15};
+    static const uint8_t often[] = {1,  1,  2,  2,  3,  3,  4,  4,  4,  5,  5,  5,  6,  6,  7,  7,  8,  9,  9,  10, 10,
+                                    11, 11, 11, 11, 11, 11, 11, 12, 13, 14, 14, 14, 14, 14, 15, 16, 16, 17, 17, 17, 17};
     struct call call = draw_operation(from, state, PICK(from, often));
     if (one_in(from, 8))
         spoil(from, &call, model_pages(state));
@@ -218,7 +222,7 @@ static struct call propose_write(struct source *from, const struct flat *flat)
 static struct call propose(struct source *from, const struct flat *flat)
 {
     static const uint8_t others[] = {1, 1, 2, 3, 3, 4, 4, 4, 4, 4, 14, 14, 14, 14, 15};
-    switch (below(from, 16)) {
+    switch (below(from, 18)) {
     case 0: {
         uint32_t slot = below(from, 8);
         return draw_back(from, flat, flat->stands[slot].any ? slot : 0);
@@ -234,6 +238,8 @@ static struct call propose(struct source *from, const struct flat *flat)
             spoil(from, &call, model_pages(flat->state));
         return call;
     }
+    case 7:
+    case 8: return draw_operation(from, flat->state, one_in(from, 4) ? 16 : 17);
     default: return propose_write(from, flat);
     }
 }

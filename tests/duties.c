@@ -24,6 +24,8 @@ enum { RESET = 100, OLDER_STATE, POKE };
 #define BACK(slot) {PANEL_MASKED_WRITE, 0, 6, slot, 0, 0}
 #define UNMASKED(slot) {PANEL_UNMASKED_WRITE, 0, 6, slot, 0, 0}
 #define PLANES(mask) {PANEL_WRITE_REGISTER, PANEL_PLANE_MASK, 0, 0, 0, mask}
+#define SHOW {PANEL_VIDEO_TRANSFER, 0, 8, 0, 0, 0}
+#define CLOCK {PANEL_VIDEO_CLOCK, 0, 0, 0, 0, 0}
 /* clang-format on */
 
 enum { MARK_PLANES = 0x40404040, SERVER_PLANES = 0x3F3F3F3F, MARK = 0x40404040, INK = 0x21212121 };
@@ -35,7 +37,8 @@ static const struct duty {
 } duties[] = {
     {"none broken",
      ALL_KEPT,
-     {OPEN(0), LOAD(0), PLANES(MARK_PLANES), DRAW(0, MARK), BACK(0), PLANES(SERVER_PLANES), DRAW(0, INK), UNMASKED(0)}},
+     {OPEN(0), LOAD(0), PLANES(MARK_PLANES), DRAW(0, MARK), SHOW, CLOCK, BACK(0), PLANES(SERVER_PLANES), DRAW(0, INK),
+      UNMASKED(0)}}, /* the display's calls break no premise, while bytes wait too */
     {"D-02 a slot that stands for none", 1, {OPEN(0), DRAW(0, INK), BACK(0)}},
     {"D-03 two slots for one block",
      2,
@@ -76,13 +79,13 @@ static void no_call(struct pair *pair, uint32_t what, const uint8_t *older)
 }
 
 /* The call on the flat picture: an initial write draws as a normal one, and a slot that stands for none has no place there. */
-static void flat_step(struct flat *flat, struct call call)
+static void flat_step(struct flat *flat, struct call call, const uint8_t *memory)
 {
     bool initial = call.op == PANEL_STATELESS_INITIAL || call.op == PANEL_STATEFUL_INITIAL;
     call.op += initial;
     if (call.op == PANEL_STATEFUL_WRITE && !flat->stands[call.a].any)
         return;
-    flat_call(flat, &call);
+    flat_call(flat, &call, memory);
 }
 
 static void step(struct pair *pair, struct flat *flat, const struct duty *duty, int i)
@@ -91,7 +94,7 @@ static void step(struct pair *pair, struct flat *flat, const struct duty *duty, 
     if (i <= duty->breaks)
         expect(pair, call, "whether the call keeps the premises", flat_keeps(flat, call), i != duty->breaks);
     expect(pair, call, "whether the call is done", panel_number(pair_call(pair, call)) == PANEL_DONE, true);
-    flat_step(flat, *call);
+    flat_step(flat, *call, pair->library.memory);
 }
 
 static void try_duty(struct pair *pair, const struct duty *duty, uint8_t *picture)

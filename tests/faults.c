@@ -36,6 +36,21 @@ enum fault {
     LAST_POINT,         /* point (1279, 1023), P = 256: 8 */
     HIT_WITHOUT_BYTES,  /* a stateful write with no byte enabled sets no hit */
     BEHIND_MEMORY,      /* an unmasked write-back of the last block changes the byte behind memory */
+    VIDEO_MODULO_80,    /* the video counter counts modulo 80 */
+    SELECT_EACH_CLOCK,  /* the video select toggles at each clock */
+    BUFFER_DIV_2,       /* a transfer goes to video buffer bank div 2 */
+    BYTES_SWAPPED,      /* a clock puts the lower column in bits 15:8 */
+    LINE_FOLLOWS,       /* a write-back shows in a scan line that was transferred before it */
+    TEN_BEFORE_SEVEN,   /* a transfer on a closed bank gives 10 where its buffer is in use */
+    FREE_AT_39,         /* video counter 39: a transfer into the selected buffer is done */
+    USED_AT_0,          /* video counter 0, bank 3: a transfer into the selected buffer gives 10 */
+    TEN_COUNTED,        /* a transfer refused with 10 is counted */
+    COUNTER_40_TAKEN,   /* a stored video counter of 40 is taken */
+    SELECT_256_TAKEN,   /* a stored select of 256 is taken for scan lines */
+    OLD_BLOCK_TAKEN,    /* a block of 348 bytes is taken */
+    SIZE_193_TRANSFER,  /* P = 193: a transfer from bank 2 takes line 14 for line 15 */
+    LAST_VIDEO_BYTE,    /* page 256 of bank 3: a transfer of line 15 leaves out the last byte */
+    STATE_11_CLOCK,     /* state at 11 past a multiple of 16: the last clock of buffer 1 puts out one byte */
     COUNTER_12345678,   /* counter 12345678h stays */
     DATA_12345678,      /* a stateful write of data 12345678h is not counted */
 };
@@ -86,6 +101,8 @@ uint64_t panel_scan_line(const uint8_t *state, size_t state_len, const uint8_t *
                          uint32_t page, uint32_t line)
 {
     uint64_t answer = model_scan_line(state, state_len, memory, memory_len, bank, page, line);
+    if (planted() == SELECT_256_TAKEN && state_len == MODEL_STATE && model_video_select(state) == 256)
+        return 0;
     if (planted() == SIZE_201_LINE && !refused(answer) && model_pages(state) == 201 && bank == 1)
         return answer + PANEL_LINE_BYTES;
     if (planted() == LAST_LINE && !refused(answer) && bank == 3 && page == 256 && line == 15)
@@ -179,11 +196,102 @@ static void miscount(uint8_t *state, const struct call *x, const struct moment *
         put32(state + PANEL_AT_COUNTER, 0);
 }
 
+/* ---- Scan-out ---- */
+
+static uint8_t *video_buffer(uint8_t *state, uint32_t number) { return state + PANEL_AT_VIDEO + PANEL_LINE_BYTES * number; }
+
+static void put_line(uint8_t *state, const uint8_t *memory, uint32_t bank, uint32_t line, uint32_t buffer)
+{
+    size_t page = model_page_at(state, bank, model_open_page(state, bank));
+    memcpy(video_buffer(state, buffer), memory + page + PANEL_LINE_BYTES * line, PANEL_LINE_BYTES);
+}
+
+/* Mistakes in what a transfer leaves; before is the state that it met. */
+static void spoil_transfer(uint8_t *state, const uint8_t *before, const uint8_t *memory, const struct call *x)
+{
+    if (planted() == BUFFER_DIV_2) {
+        memcpy(state + PANEL_AT_VIDEO, before + PANEL_AT_VIDEO, 2 * PANEL_LINE_BYTES);
+        put_line(state, memory, x->a, x->b, x->a / 2);
+    }
+    if (planted() == SIZE_193_TRANSFER && model_pages(state) == 193 && x->a == 2 && x->b == 15)
+        put_line(state, memory, 2, 14, 0);
+    if (planted() == LAST_VIDEO_BYTE && x->a == 3 && x->b == 15 && model_open_page(state, 3) == 256)
+        state[PANEL_AT_VIDEO_COUNTER - 1] = before[PANEL_AT_VIDEO_COUNTER - 1];
+}
+
+/* Mistakes of a clock: its answer. */
+static uint64_t spoil_clock(uint8_t *state, const uint8_t *before, uint64_t answer)
+{
+    uint32_t counter = model_video_counter(before), select = model_video_select(before);
+    if (planted() == VIDEO_MODULO_80 && counter == 39) {
+        put16(state + PANEL_AT_VIDEO_COUNTER, 40);
+        put16(state + PANEL_AT_VIDEO_SELECT, select);
+    }
+    if (planted() == SELECT_EACH_CLOCK)
+        put16(state + PANEL_AT_VIDEO_SELECT, 1 - select);
+    if (planted() == BYTES_SWAPPED)
+        return answer >> 8 | (answer & 0xFF) << 8;
+    if (planted() == STATE_11_CLOCK && counter == 39 && select == 1 && past(state) == 11)
+        return answer & 0xFF;
+    return answer;
+}
+
+/* A buffer that follows memory: where its last line came from, and that line again behind a write-back. */
+static void follow(uint8_t *state, const uint8_t *memory, const struct call *x)
+{
+    static struct call last[PANEL_VIDEO_BUFFERS];
+    static uint32_t page[PANEL_VIDEO_BUFFERS];
+    uint32_t buffer = x->a % 2;
+    bool back = x->op == PANEL_MASKED_WRITE || x->op == PANEL_UNMASKED_WRITE;
+    if (x->op == PANEL_VIDEO_TRANSFER) {
+        last[buffer] = *x;
+        page[buffer] = model_open_page(state, x->a);
+    }
+    if (back && last[buffer].op != 0 && last[buffer].a == x->a && page[buffer] == model_open_page(state, x->a))
+        put_line(state, memory, x->a, last[buffer].b, buffer);
+}
+
+static uint64_t spoil_video(uint8_t *state, const uint8_t *before, const uint8_t *memory, const struct call *x, uint64_t answer)
+{
+    if (planted() == LINE_FOLLOWS)
+        follow(state, memory, x);
+    if (x->op == PANEL_VIDEO_TRANSFER)
+        spoil_transfer(state, before, memory, x);
+    return x->op == PANEL_VIDEO_CLOCK ? spoil_clock(state, before, answer) : answer;
+}
+
+/* Mistakes in the number of a video transfer on a well-formed block. */
+static uint32_t renumber(const uint8_t *state, const struct call *x, uint32_t number)
+{
+    uint32_t counter = model_video_counter(state);
+    bool selected = x->a % 2 == model_video_select(state);
+    if (planted() == TEN_BEFORE_SEVEN && number == PANEL_BANK_CLOSED && selected && counter != 0)
+        return PANEL_BUFFER_IN_USE;
+    if (planted() == USED_AT_0 && number == PANEL_DONE && selected && counter == 0 && x->a == 3)
+        return PANEL_BUFFER_IN_USE;
+    return number;
+}
+
+/* Whether a block that must be refused is taken by mistake: the parts before the video buffers, with fresh ones behind. */
+static bool is_taken(const uint8_t *state, size_t state_len, size_t memory_len, const struct call *x)
+{
+    uint8_t block[MODEL_STATE] = {0};
+    if ((planted() == COUNTER_40_TAKEN && state_len == MODEL_STATE && model_video_counter(state) == 40) ||
+        (planted() == OLD_BLOCK_TAKEN && state_len == PANEL_AT_VIDEO && get16(state + 14) == PANEL_AT_VIDEO))
+        memcpy(block, state, PANEL_AT_VIDEO);
+    put16(block + 14, MODEL_STATE);
+    return model_number(block, MODEL_STATE, memory_len, x) == PANEL_DONE;
+}
+
+/* ---- A call as a whole ---- */
+
 /* A call that is done. */
 static uint64_t perform(uint8_t *state, uint8_t *memory, size_t memory_len, struct call x)
 {
     struct moment m = look(state, memory, &x);
+    uint8_t before[MODEL_STATE];
     uint64_t answer;
+    memcpy(before, state, sizeof before);
     if (planted() == SIZE_255_ACCESS && x.op == PANEL_ACCESS_PAGE && m.pages == 255 && x.b == 254)
         return (uint64_t)PANEL_OUT_OF_RANGE << 40;
     if (planted() == BANK_3 && x.op == PANEL_DUPLICATE_PAGE && x.a == 3 && m.page == 0 && x.b == m.pages - 1) {
@@ -193,6 +301,7 @@ static uint64_t perform(uint8_t *state, uint8_t *memory, size_t memory_len, stru
     }
     turn(&x, state, &m);
     answer = model_call(state, MODEL_STATE, memory, memory_len, x.op, x.a, x.b, x.c, x.d, x.data);
+    answer = spoil_video(state, before, memory, &x, answer);
     spoil(state, memory, memory_len, &x, &m);
     miscount(state, &x, &m);
     if ((planted() == TAG_ALL && x.op == PANEL_UNMASKED_WRITE && m.tag == 0xFFFFFFFF) ||
@@ -206,9 +315,18 @@ uint64_t panel_call(uint8_t *state, size_t state_len, uint8_t *memory, size_t me
 {
     struct call x = {op, a, b, c, d, data};
     uint32_t number = model_number(state, state_len, memory_len, &x);
+    if (op == PANEL_VIDEO_TRANSFER && number != PANEL_ILL_FORMED)
+        number = renumber(state, &x, number);
     if (number == PANEL_DONE)
         return perform(state, memory, memory_len, x);
-    if (planted() == REFUSED_OR_TAG && op == PANEL_OR_TAG && number == PANEL_OUT_OF_RANGE)
+    if (number == PANEL_ILL_FORMED && is_taken(state, state_len, memory_len, &x))
+        return 0; /* that it is, is enough */
+    if (planted() == FREE_AT_39 && number == PANEL_BUFFER_IN_USE && model_video_counter(state) == 39) {
+        put_line(state, memory, a, b, a % 2);
+        number = PANEL_DONE;
+    }
+    if ((planted() == REFUSED_OR_TAG && op == PANEL_OR_TAG && number == PANEL_OUT_OF_RANGE) ||
+        (planted() == TEN_COUNTED && number == PANEL_BUFFER_IN_USE))
         put32(state + PANEL_AT_COUNTER, get32(state + PANEL_AT_COUNTER) + 1);
     return (uint64_t)number << 40;
 }

@@ -101,7 +101,29 @@ static uint64_t flat_write(struct flat *flat, const struct call *call)
     return (uint64_t)drawn.pass << 32 | (uint64_t)drawn.enabled << 33;
 }
 
-uint64_t flat_call(struct flat *flat, const struct call *call)
+static void flat_transfer(struct flat *flat, const struct call *call, const uint8_t *memory)
+{
+    struct shown *shown = &flat->shown[call->a % 2];
+    shown->any = true;
+    shown->at = model_page_at(flat->state, call->a, model_open_page(flat->state, call->a)) + MODEL_LINE * call->b;
+    memcpy(shown->line, memory + shown->at, MODEL_LINE);
+}
+
+/* Forty clocks put out a line, two bytes each, and the next forty are the other buffer's. */
+static uint64_t flat_clock(struct flat *flat)
+{
+    const uint8_t *line = flat->shown[flat->clocks / MODEL_CLOCKS % 2].line;
+    return get16(line + 2 * (flat->clocks++ % MODEL_CLOCKS));
+}
+
+/* What touches no slot: the model does it, on the picture. */
+static uint64_t by_model(struct flat *flat, const struct call *call)
+{
+    return model_call(flat->state, sizeof flat->state, flat->picture, flat->picture_len, call->op, call->a, call->b, call->c,
+                      call->d, call->data);
+}
+
+uint64_t flat_call(struct flat *flat, const struct call *call, const uint8_t *memory)
 {
     uint32_t number = model_number(flat->state, sizeof flat->state, flat->picture_len, call);
     if (number != 0)
@@ -113,8 +135,8 @@ uint64_t flat_call(struct flat *flat, const struct call *call)
     case 7: return get32(word_of(flat, call->a, call->b));
     case 9:
     case 11: return flat_write(flat, call);
-    default: /* access, precharge, duplicate and registers touch no slot: the model does them, on the picture */
-        return model_call(flat->state, sizeof flat->state, flat->picture, flat->picture_len, call->op, call->a, call->b,
-                          call->c, call->d, call->data);
+    case 16: flat_transfer(flat, call, memory); return 0;
+    case 17: by_model(flat, call); return flat_clock(flat); /* the model counts; what is put out is ours */
+    default: /* access, precharge, duplicate, registers */ return by_model(flat, call);
     }
 }

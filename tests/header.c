@@ -1,5 +1,5 @@
-/* header.c: panel.h read as C and as C++. Its constants are document 01's numbers, its accessors take answers apart as the
- * document lays them out, and its functions link. Exit status 0: all of it holds. */
+/* header.c: panel.h read as C and as C++. Its constants are the documents' numbers, its accessors take answers apart as
+ * document 01 lays them out, and its functions link. Exit status 0: all of it holds. */
 #include <stdio.h>
 #include <string.h>
 
@@ -20,9 +20,9 @@ static void same(const char *what, unsigned long long found, unsigned long long 
 
 static void sizes(void)
 {
-    SAME(PANEL_VERSION_MAJOR, 1); /* of a block of 348 bytes */
+    SAME(PANEL_VERSION_MAJOR, 2); /* of a block of 512 bytes */
     SAME(PANEL_VERSION_MINOR, 0);
-    SAME(PANEL_STATE_BYTES, 348);
+    SAME(PANEL_STATE_BYTES, 512);
     SAME(PANEL_MEMORY_BYTES(1), 5120);
     SAME(PANEL_MEMORY_BYTES(257), 4 * 328960);
     SAME(PANEL_PAGES_MIN, 1);
@@ -42,20 +42,28 @@ static void sizes(void)
     SAME(PANEL_AT_FLAGS, PANEL_AT_REGISTERS + 7 * 4);
     SAME(PANEL_AT_TAGS, PANEL_AT_COUNTER + 4);
     SAME(PANEL_AT_PIXELS, PANEL_AT_TAGS + PANEL_SLOTS * 4);
-    SAME(PANEL_AT_PIXELS + PANEL_SLOTS * PANEL_BLOCK_BYTES, PANEL_STATE_BYTES);
+    SAME(PANEL_AT_VIDEO, PANEL_AT_PIXELS + PANEL_SLOTS * PANEL_BLOCK_BYTES);
+    SAME(PANEL_AT_VIDEO_COUNTER, PANEL_AT_VIDEO + PANEL_VIDEO_BUFFERS * PANEL_LINE_BYTES);
+    SAME(PANEL_AT_VIDEO_SELECT, PANEL_AT_VIDEO_COUNTER + 2);
+    SAME(PANEL_AT_VIDEO_SELECT + 2, PANEL_STATE_BYTES);
+    SAME(2 * PANEL_VIDEO_CLOCKS, PANEL_LINE_BYTES);
 }
 
-/* In the order of document 01's tables. */
+/* What panel_number gives, with the number that no function gives, 9, left out. */
+static const int numbers[] = {PANEL_DONE,         PANEL_ILL_FORMED,    PANEL_MEMORY_LENGTH, PANEL_NO_OPERATION,
+                              PANEL_OUT_OF_RANGE, PANEL_REGISTER_BITS, PANEL_BANK_OPEN,     PANEL_BANK_CLOSED,
+                              PANEL_NO_POINT,     PANEL_BUFFER_IN_USE};
+
+/* In the order of the documents' tables. */
 static void lists(void)
 {
     const int operations[] = {PANEL_ACCESS_PAGE,     PANEL_PRECHARGE,        PANEL_DUPLICATE_PAGE, PANEL_READ_BLOCK,
                               PANEL_MASKED_WRITE,    PANEL_UNMASKED_WRITE,   PANEL_DATA_READ,      PANEL_STATELESS_INITIAL,
                               PANEL_STATELESS_WRITE, PANEL_STATEFUL_INITIAL, PANEL_STATEFUL_WRITE, PANEL_REPLACE_TAG,
-                              PANEL_OR_TAG,          PANEL_WRITE_REGISTER,   PANEL_READ_REGISTER};
+                              PANEL_OR_TAG,          PANEL_WRITE_REGISTER,   PANEL_READ_REGISTER,  PANEL_VIDEO_TRANSFER,
+                              PANEL_VIDEO_CLOCK};
     const int registers[] = {PANEL_PLANE_MASK,  PANEL_CONSTANT_SOURCE, PANEL_MATCH_MASK,           PANEL_MAGNITUDE_MASK,
                              PANEL_ROP_CONTROL, PANEL_COMPARE_CONTROL, PANEL_WRITE_ADDRESS_CONTROL};
-    const int numbers[] = {PANEL_DONE,          PANEL_ILL_FORMED, PANEL_MEMORY_LENGTH, PANEL_NO_OPERATION, PANEL_OUT_OF_RANGE,
-                           PANEL_REGISTER_BITS, PANEL_BANK_OPEN,  PANEL_BANK_CLOSED,   PANEL_NO_POINT};
     const int codes[] = {PANEL_CLEAR,         PANEL_AND,         PANEL_AND_REVERSE, PANEL_COPY,
                          PANEL_AND_INVERTED,  PANEL_KEEP,        PANEL_XOR,         PANEL_OR,
                          PANEL_NOR,           PANEL_EQUIV,       PANEL_INVERT,      PANEL_OR_REVERSE,
@@ -65,7 +73,7 @@ static void lists(void)
     for (int i = 0; i < COUNT(registers); i++)
         same("a register", (unsigned)registers[i], (unsigned)i + 1);
     for (int i = 0; i < COUNT(numbers); i++)
-        same("a number", (unsigned)numbers[i], (unsigned)i);
+        same("a number", (unsigned)numbers[i], i < 9 ? (unsigned)i : (unsigned)i + 1);
     for (int i = 0; i < COUNT(codes); i++)
         same("a raster code", (unsigned)codes[i], (unsigned)i);
 }
@@ -103,13 +111,21 @@ static void compare_bits(void)
     SAME(PANEL_PASS_IN, 3);
 }
 
-/* Each number in words of its own. */
+/* Whether two numbers have the same words. */
+static int alike(int number, int other)
+{
+    return strcmp(panel_number_text((uint32_t)number), panel_number_text((uint32_t)other)) == 0;
+}
+
+/* Each number in words of its own; those that are none in the same. */
 static void texts(void)
 {
-    for (uint32_t number = PANEL_DONE; number <= PANEL_NO_POINT; number++)
-        for (uint32_t other = number + 1; other <= PANEL_NO_POINT + 1; other++)
-            same("two numbers in the same words", strcmp(panel_number_text(number), panel_number_text(other)) == 0, 0);
-    same("the text of a number that is none", strcmp(panel_number_text(99), panel_number_text(PANEL_NO_POINT + 1)) == 0, 1);
+    for (int i = 0; i < COUNT(numbers); i++) {
+        same("a number in the words of none", (unsigned)alike(numbers[i], 99), 0);
+        for (int j = 0; j < i; j++)
+            same("two numbers in the same words", (unsigned)alike(numbers[i], numbers[j]), 0);
+    }
+    same("the words of numbers that are none", (unsigned)(alike(9, 99) && alike(11, 99)), 1);
 }
 
 static void accessors(void)
@@ -123,6 +139,18 @@ static void accessors(void)
     SAME(panel_block_at(9, 13), 6); /* byte 13 of block 6: word 3, byte 1 */
     SAME(panel_word_at(9, 13), 3);
     SAME(panel_byte_at(13), 1);
+}
+
+/* A whole scan line of zeros put out: the accessors of the display's counter and select follow. */
+static void clocks(uint8_t *state, uint8_t *memory)
+{
+    for (uint32_t n = 0; n < PANEL_VIDEO_CLOCKS; n++) {
+        SAME(panel_video_counter(state), n);
+        SAME(panel_video_select(state), 0);
+        SAME(panel_call(state, PANEL_STATE_BYTES, memory, PANEL_MEMORY_BYTES(1), PANEL_VIDEO_CLOCK, 0, 0, 0, 0, 0), 0);
+    }
+    SAME(panel_video_counter(state), 0);
+    SAME(panel_video_select(state), 1);
 }
 
 /* The functions, linked from this language; and the accessors of what they give. */
@@ -149,6 +177,8 @@ static void functions(void)
     SAME(panel_picking(state), 1);
     SAME(panel_hit(state), 1);
     SAME(panel_value(panel_scan_line(state, sizeof state, memory, sizeof memory, 3, 0, 15)), 3 * 1280 + 15 * 80);
+    SAME(panel_call(state, sizeof state, memory, sizeof memory, PANEL_VIDEO_TRANSFER, 2, 15, 0, 0, 0), 0);
+    clocks(state, memory);
 }
 
 int main(void)

@@ -1,10 +1,12 @@
-/* model.c: document 01 in plain C, in the document's order. It works in place on the bytes of the state block. */
+/* model.c: document 01 and request T-01 of document 02 in plain C, in document 01's order. It works in place on the bytes of
+ * the state block. */
 #include "model.h"
 
 #include <string.h>
 
 /* Chip state: where the parts of the state block start. */
 enum { BANKS = 16, REGISTERS = 24, FLAGS = 52, COUNTER = 56, TAGS = 60, PIXELS = 92 };
+enum { VIDEO = 348, VIDEO_COUNTER = VIDEO + 160, VIDEO_SELECT = VIDEO_COUNTER + 2 };
 enum { PICKING = 1, HIT = 2 };
 enum { PLANE_MASK = 1, CONSTANT, MATCH_MASK, MAGNITUDE_MASK, ROP, COMPARE, WRITE_ADDRESS };
 enum { PAGES_MAX = 257, SCREEN_WIDTH = 1280, SCREEN_HEIGHT = 1024, SLOT = 32 };
@@ -73,6 +75,8 @@ uint32_t model_pages(const uint8_t *state) { return get16(state); }
 uint32_t model_open_page(const uint8_t *state, uint32_t bank) { return get16(state + BANKS + 2 * bank); }
 uint32_t model_register(const uint8_t *state, uint32_t number) { return get32(state + REGISTERS + 4 * (number - 1)); }
 uint32_t model_tag(const uint8_t *state, uint32_t slot) { return get32(state + TAGS + 4 * slot); }
+uint32_t model_video_counter(const uint8_t *state) { return get16(state + VIDEO_COUNTER); }
+uint32_t model_video_select(const uint8_t *state) { return get16(state + VIDEO_SELECT); }
 bool model_picking(const uint8_t *state) { return state[FLAGS] & PICKING; }
 bool model_hit(const uint8_t *state) { return state[FLAGS] & HIT; }
 
@@ -107,7 +111,7 @@ static const uint32_t compare_stored = 0x00030707;
 
 uint32_t model_allowed(uint32_t number) { return registers[number].allowed; }
 
-/* The header's fields after P, as bytes: 8, 16, 24, 52, 60, 92, 348. */
+/* The header's fields after P, as bytes: 8, 16, 24, 52, 60, 92, 512. */
 static const uint8_t header[14] = {
     8, 0, BANKS, 0, REGISTERS, 0, FLAGS, 0, TAGS, 0, PIXELS, 0, MODEL_STATE & 0xFF, MODEL_STATE >> 8};
 
@@ -131,6 +135,8 @@ static bool well_formed(const uint8_t *state)
 {
     uint32_t pages = model_pages(state), other_bits = get32(state + FLAGS) & ~(uint32_t)(PICKING | HIT);
     if (pages < 1 || pages > PAGES_MAX || memcmp(state + 2, header, sizeof header) != 0)
+        return false;
+    if (model_video_counter(state) > 39 || model_video_select(state) > 1)
         return false;
     for (uint32_t bank = 0; bank < 4; bank++)
         if (model_open_page(state, bank) >= pages && model_open_page(state, bank) != MODEL_CLOSED)
@@ -161,9 +167,17 @@ static bool in_range(const struct call *call, uint32_t pages)
     case 12:
     case 13: return a < 8 && (b | c | d) == 0;
     case 14: return a >= 1 && a <= 7 && (b | c | d) == 0;
-    default: return a >= 1 && a <= 7 && (b | c | d | data) == 0;
+    case 15: return a >= 1 && a <= 7 && (b | c | d | data) == 0;
+    case 16: return a < 4 && b < 16 && (c | d | data) == 0;
+    default: return (a | b | c | d | data) == 0;
     }
 }
+
+/* Ops 3 to 6 and 16 work on the bank's open page. */
+static bool needs_page(uint32_t op) { return (op >= 3 && op <= 6) || op == 16; }
+
+/* Banks 0 and 2 feed video buffer 0, banks 1 and 3 feed buffer 1. */
+static uint32_t buffer_of(uint32_t bank) { return bank % 2; }
 
 /* The first number that applies, in the table's order; 0 where the call is done. */
 uint32_t model_number(const uint8_t *state, size_t state_len, size_t memory_len, const struct call *call)
@@ -180,8 +194,10 @@ uint32_t model_number(const uint8_t *state, size_t state_len, size_t memory_len,
         return 5;
     if (call->op == 1 && model_open_page(state, call->a) != MODEL_CLOSED)
         return 6;
-    if (call->op >= 3 && call->op <= 6 && model_open_page(state, call->a) == MODEL_CLOSED)
+    if (needs_page(call->op) && model_open_page(state, call->a) == MODEL_CLOSED)
         return 7;
+    if (call->op == 16 && buffer_of(call->a) == model_video_select(state) && model_video_counter(state) != 0)
+        return 10;
     return 0;
 }
 
@@ -347,6 +363,26 @@ static void write_register(uint8_t *state, uint32_t number, uint32_t data)
         set_flag(state, HIT, data >> 24 & 1);
 }
 
+/* ---- Scan-out to the display ---- */
+
+static uint8_t *video_buffer(uint8_t *state, uint32_t buffer) { return state + VIDEO + MODEL_LINE * buffer; }
+
+static void video_transfer(uint8_t *state, uint8_t *memory, uint32_t bank, uint32_t line)
+{
+    memcpy(video_buffer(state, buffer_of(bank)), open_page(state, memory, bank) + line * MODEL_LINE, MODEL_LINE);
+}
+
+/* Two bytes of the selected buffer, the lower column in bits 7:0; the select toggles when the counter wraps. */
+static uint32_t video_clock(uint8_t *state)
+{
+    uint32_t counter = model_video_counter(state), select = model_video_select(state);
+    const uint8_t *out = video_buffer(state, select) + 2 * counter;
+    put16(state + VIDEO_COUNTER, (counter + 1) % MODEL_CLOCKS);
+    if (counter + 1 == MODEL_CLOCKS)
+        put16(state + VIDEO_SELECT, 1 - select);
+    return out[0] + 256 * out[1];
+}
+
 /* ---- Calls ---- */
 
 /* A call that is done: its answer. */
@@ -368,7 +404,9 @@ static uint64_t perform(uint8_t *state, uint8_t *memory, const struct call *call
     case 12: set_tag(state, a, call->data); return 0;
     case 13: set_tag(state, a, model_tag(state, a) | call->data); return 0;
     case 14: write_register(state, a, call->data); return 0;
-    default: return model_register(state, a);
+    case 15: return model_register(state, a);
+    case 16: video_transfer(state, memory, a, b); return 0;
+    default: return video_clock(state);
     }
 }
 

@@ -1,5 +1,5 @@
-/* model.h: document 01 in plain C, to compare the library with. Written from the document, not from the library; it takes
- * no constant from panel.h, so that a wrong one there shows. */
+/* model.h: document 01 and request T-01 of document 02 in plain C, to compare the library with. Written from the documents, not
+ * from the library; it takes no constant from panel.h, so that a wrong one there shows. */
 #ifndef MODEL_H
 #define MODEL_H
 
@@ -19,10 +19,13 @@ uint64_t model_columns(uint8_t *table, size_t len);
 
 /* ---- Parts of it that the flat picture and the driver use too ---- */
 
-enum { MODEL_STATE = 348, MODEL_PAGE = 1280, MODEL_LINE = 80, MODEL_CLOSED = 65535 };
+enum { MODEL_STATE = 512, MODEL_PAGE = 1280, MODEL_LINE = 80, MODEL_CLOSED = 65535 };
 
-/* The last operation: they are 1 to this. And how many numbers a call may give back, 0 among them. */
-enum { MODEL_OPERATIONS = 15, MODEL_NUMBERS = 9 };
+/* The last operation: they are 1 to this. And one more than the last number that a call may give back. */
+enum { MODEL_OPERATIONS = 17, MODEL_NUMBERS = 11 };
+
+/* Clocks that put out a video buffer: its counter is below this. */
+enum { MODEL_CLOCKS = 40 };
 
 /* A call as it is handed over. */
 struct call {
@@ -49,6 +52,8 @@ uint32_t model_register(const uint8_t *state, uint32_t number);
 uint32_t model_allowed(uint32_t number);
 uint32_t model_tag(const uint8_t *state, uint32_t slot);
 uint32_t model_word(const uint8_t *state, uint32_t slot, uint32_t word);
+uint32_t model_video_counter(const uint8_t *state);
+uint32_t model_video_select(const uint8_t *state);
 bool model_picking(const uint8_t *state);
 bool model_hit(const uint8_t *state);
 void model_set_hit(uint8_t *state, bool hit);

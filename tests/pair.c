@@ -328,15 +328,15 @@ uint64_t pair_scan_line(struct pair *pair, size_t state_len, size_t memory_len, 
 static const char *kind_name(int kind)
 {
     static const char *const names[TRIED_KINDS] = {
-        "no operation",   "access page",  "precharge",         "duplicate page",  "read block",       "masked write",
-        "unmasked write", "data read",    "stateless initial", "stateless write", "stateful initial", "stateful write",
-        "replace tag",    "or tag",       "write register",    "read register",   "panel_fresh",      "panel_scan_line",
-        "panel_point",    "panel_column", "panel_columns",
+        "no operation",   "access page",     "precharge",         "duplicate page",  "read block",       "masked write",
+        "unmasked write", "data read",       "stateless initial", "stateless write", "stateful initial", "stateful write",
+        "replace tag",    "or tag",          "write register",    "read register",   "video transfer",   "video clock",
+        "panel_fresh",    "panel_scan_line", "panel_point",       "panel_column",    "panel_columns",
     };
     return names[kind];
 }
 
-/* Whether a number can be given for a kind at all (document 01, Numbers given back). */
+/* Whether a number can be given for a kind at all (document 01, Numbers given back; document 02, T-01). */
 static bool can_be(int kind, int number)
 {
     bool operation = kind >= 1 && kind <= MODEL_OPERATIONS;
@@ -348,8 +348,10 @@ static bool can_be(int kind, int number)
     case 4: return operation || (kind >= TRIED_FRESH && kind != TRIED_COLUMN);
     case 5: return kind == 14;
     case 6: return kind == 1;
-    case 7: return kind >= 3 && kind <= 6;
-    default: return kind == TRIED_POINT || kind == TRIED_COLUMN;
+    case 7: return (kind >= 3 && kind <= 6) || kind == 16;
+    case 8: return kind == TRIED_POINT || kind == TRIED_COLUMN;
+    case 10: return kind == 16;
+    default: return false;
     }
 }
 

@@ -3,13 +3,17 @@
 #define PHASES_H
 
 #include <stdbool.h>
+#include <stddef.h>
 #include <stdint.h>
+
+struct call;
 
 /* Document 01's examples, with the numbers that it prints. */
 void try_examples(void);
 
-/* Its sentences that no example shows, by their numbers in docs/TRACE.md. */
+/* Its sentences that no example shows, and those of document 02's requests, by their numbers in docs/TRACE.md. */
 void try_sentences(void);
+void try_requests(void);
 
 /* Every screen point and those just outside, the column table, every scan line; those of the first and the last page alone. */
 void try_points(void);
@@ -23,8 +27,18 @@ void try_lengths(uint32_t pages);
 void try_damage(uint32_t pages, uint64_t seed);
 void try_fresh(uint32_t pages);
 
+/* Video transfers and clocks at each counter and select; lines of the first and the last page put out whole; counters and selects
+ * of every value in a block. */
+void try_scans(uint32_t pages);
+void try_put_out(uint32_t pages);
+void try_stored_scans(void);
+
 /* Random calls, valid and invalid: library against model. */
 void try_random(uint32_t pages, uint64_t seed, unsigned long calls);
+
+/* Notes what such a call meets of the display, before it is made; false where something was never met. */
+void note_scan(const uint8_t *state, size_t memory_len, const struct call *call);
+bool scanned_all(void);
 
 /* Random calls that keep demand 3's premises: library against the flat picture. */
 void try_pictures(uint32_t pages, uint64_t seed, unsigned long calls);

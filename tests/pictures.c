@@ -1,6 +1,6 @@
 /* pictures.c: demand 3 from outside. Random calls that keep the premises are drawn; every read, pass, written and hit of the
- * library is compared with the flat picture's, and memory with the whole picture each time no bytes wait. pair.h compares the
- * same calls with the model too. */
+ * library and all that its video clocks put out are compared with the flat picture's, and memory with the whole picture each
+ * time no bytes wait. pair.h compares the same calls with the model too. */
 #include "phases.h"
 
 #include <stdio.h>
@@ -30,6 +30,14 @@ enum {
     MASK_CHANGE,
     REFUSED,
     PICTURE_COMPARED,
+    TRANSFER,
+    TRANSFER_WAITING,
+    TRANSFER_CLOSED,
+    TRANSFER_IN_USE,
+    CLOCK_BEFORE,
+    CLOCK_SHOWN,
+    CLOCK_OLDER,
+    CLOCK_WRAPS,
     FEATURES
 };
 static unsigned long used[FEATURES];
@@ -47,7 +55,15 @@ static const char *feature_name(int feature)
                                         "page duplicated",
                                         "plane mask changed",
                                         "refused call",
-                                        "whole picture compared"};
+                                        "whole picture compared",
+                                        "scan line transferred",
+                                        "transferred while its bytes wait",
+                                        "transfer refused with 7",
+                                        "transfer refused with 10",
+                                        "put out before a transfer",
+                                        "put out behind a transfer",
+                                        "put out, and memory has changed",
+                                        "last two bytes put out"};
     static char text[40];
     if (feature >= DECAL)
         return names[feature - DECAL];
@@ -91,11 +107,37 @@ static void note_stateful(const struct flat *flat, const struct call *call, uint
         }
 }
 
+static void note_refused(const struct call *call, uint64_t answer)
+{
+    used[REFUSED]++;
+    if (call->op != PANEL_VIDEO_TRANSFER)
+        return;
+    used[TRANSFER_CLOSED] += panel_number(answer) == PANEL_BANK_CLOSED;
+    used[TRANSFER_IN_USE] += panel_number(answer) == PANEL_BUFFER_IN_USE;
+}
+
+/* Bytes of the line wait where the picture has others than memory. */
+static void note_transfer(const struct flat *flat, const struct call *call, const uint8_t *memory)
+{
+    size_t at = model_page_at(flat->state, call->a, model_open_page(flat->state, call->a)) + PANEL_LINE_BYTES * call->b;
+    used[TRANSFER]++;
+    used[TRANSFER_WAITING] += memcmp(memory + at, flat->picture + at, PANEL_LINE_BYTES) != 0;
+}
+
+static void note_clock(const struct flat *flat, const uint8_t *memory)
+{
+    const struct shown *shown = &flat->shown[model_video_select(flat->state)];
+    uint32_t column = 2 * model_video_counter(flat->state);
+    used[shown->any ? CLOCK_SHOWN : CLOCK_BEFORE]++;
+    used[CLOCK_OLDER] += shown->any && memcmp(shown->line + column, memory + shown->at + column, 2) != 0;
+    used[CLOCK_WRAPS] += column == PANEL_LINE_BYTES - 2;
+}
+
 /* Before the flat picture does the call. */
-static void note(const struct flat *flat, const struct call *call, uint64_t answer)
+static void note(const struct flat *flat, const struct call *call, uint64_t answer, const uint8_t *memory)
 {
     if (panel_number(answer) != PANEL_DONE) {
-        used[REFUSED]++;
+        note_refused(call, answer);
         return;
     }
     switch (call->op) {
@@ -105,6 +147,8 @@ static void note(const struct flat *flat, const struct call *call, uint64_t answ
     case PANEL_STATELESS_WRITE: used[STATELESS]++; break;
     case PANEL_STATEFUL_WRITE: note_stateful(flat, call, answer); break;
     case PANEL_WRITE_REGISTER: used[MASK_CHANGE] += call->a == 1 && call->data != model_register(flat->state, 1); break;
+    case PANEL_VIDEO_TRANSFER: note_transfer(flat, call, memory); break;
+    case PANEL_VIDEO_CLOCK: note_clock(flat, memory); break;
     default: break;
     }
 }
@@ -115,8 +159,8 @@ static void step(struct pair *pair, struct flat *flat, const struct call *call)
 {
     bool hit = model_hit(flat->state), back = call->op == PANEL_MASKED_WRITE || call->op == PANEL_UNMASKED_WRITE;
     uint64_t answer = pair_call(pair, call), expected;
-    note(flat, call, answer);
-    expected = flat_call(flat, call);
+    note(flat, call, answer, pair->library.memory);
+    expected = flat_call(flat, call, pair->library.memory);
     if ((back ? answer >> 32 : answer) != (back ? expected >> 32 : expected))
         wrong_at(pair, call, "an answer against the flat picture's", answer, expected);
     if (panel_hit(pair->library.state) != model_hit(flat->state))

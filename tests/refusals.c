@@ -59,7 +59,7 @@ static uint32_t *field(struct call *call, int i)
 }
 
 /* The numbers at which some operation's range ends. */
-static const uint32_t edges[] = {0,  1,  2,  3,  4,   5,   7,   8,   9,     15,    16,    17,         31,         32,
+static const uint32_t edges[] = {0,  1,  2,  3,  4,   5,   7,   8,   9,     15,    16,    17,         18,         31,        32,
                                  38, 39, 40, 41, 255, 256, 257, 258, 65535, 65536, 65537, 0x01000000, 0x80000000, 0xFFFFFFFF};
 enum { EDGES = sizeof edges / sizeof *edges, PAGE_EDGES = 3 };
 
@@ -123,6 +123,16 @@ static void calls_of_lengths(struct pair *pair, const uint8_t *state, size_t sta
     pair_scan_line(pair, state_len, memory_len, 4, 0, 0);
 }
 
+/* The block as it is, and with a header that names the length lent, as blocks of other versions do. */
+static void headers_of_lengths(struct pair *pair, const uint8_t *state, size_t state_len, size_t memory_len)
+{
+    uint8_t named[MODEL_STATE];
+    memcpy(named, state, sizeof named);
+    put16(named + 14, (uint32_t)state_len);
+    calls_of_lengths(pair, state, state_len, memory_len);
+    calls_of_lengths(pair, named, state_len, memory_len);
+}
+
 /* Lengths whose lower 32 bits are right. The bytes are lent in truth: the machine gives pages to such a part only as they are
  * touched. Where it does not, this is left out and said. */
 static void huge_lengths(const uint8_t *state, size_t memory_len)
@@ -155,26 +165,26 @@ void try_lengths(uint32_t pages)
     uint8_t state[MODEL_STATE];
     make(&pair, pages, state);
     size_t right = pair.memory_len;
-    const size_t states[] = {MODEL_STATE, 0, 1, 15, 16, 91, 92, 347, 349, 350, 512, 604};
+    const size_t states[] = {MODEL_STATE, 0, 1, 15, 16, 91, 92, 347, 348, 349, 350, 508, 510, 511, 513, 514, 604, 768};
     const size_t memories[] = {right,      0,         1,         right / 2,  right - 5120,
                                right - 80, right - 1, right + 1, right + 80, right + 5120};
     open_state(state, pages);
     for (size_t s = 0; s < sizeof states / sizeof *states; s++)
         for (size_t m = 0; m < sizeof memories / sizeof *memories; m++)
-            calls_of_lengths(&pair, state, states[s], memories[m]);
+            headers_of_lengths(&pair, state, states[s], memories[m]);
     huge_lengths(state, right);
     end(&pair);
 }
 
 /* ---- Damaged blocks ---- */
 
-/* Every value in every byte before the tags; the operation changes from byte to byte. */
-static void damage_bytes(struct pair *pair, const uint8_t *state)
+/* Every value in these bytes; the operation changes from byte to byte. */
+static void damage_bytes(struct pair *pair, const uint8_t *state, uint32_t from, uint32_t until)
 {
     uint8_t damaged[MODEL_STATE];
-    for (uint32_t at = 0; at < PANEL_AT_TAGS; at++)
+    for (uint32_t at = from; at < until; at++)
         for (uint32_t value = 0; value < 256; value++) {
-            struct call call = plain(state, (at + value) % 17);
+            struct call call = plain(state, (at + value) % (MODEL_OPERATIONS + 2));
             memcpy(damaged, state, sizeof damaged);
             damaged[at] = (uint8_t)value;
             pair_state(pair, damaged);
@@ -183,15 +193,23 @@ static void damage_bytes(struct pair *pair, const uint8_t *state)
         }
 }
 
-/* Several bytes at once, and any 16-bit number in a header field or an open page. */
+/* What can be ill formed: all before the tags, and the video counter and select. */
+static void damage_parts(struct pair *pair, const uint8_t *state)
+{
+    damage_bytes(pair, state, 0, PANEL_AT_TAGS);
+    damage_bytes(pair, state, PANEL_AT_VIDEO_COUNTER, MODEL_STATE);
+}
+
+/* Several bytes at once, and any 16-bit number in a header field, an open page, the video counter or select. */
 static void damage_more(struct pair *pair, const uint8_t *state, struct source *from)
 {
-    static const uint32_t halves[] = {0, 1, 7, 8, 9, 255, 256, 257, 258, 347, 348, 512, 32768, 65534, 65535};
+    static const uint32_t halves[] = {0, 1, 2, 8, 9, 39, 40, 255, 256, 257, 258, 348, 511, 512, 513, 32768, 65534, 65535};
     uint8_t damaged[MODEL_STATE];
     for (int i = 0; i < 20000; i++) {
-        struct call call = plain(state, below(from, 17));
+        struct call call = plain(state, below(from, MODEL_OPERATIONS + 2));
+        uint32_t half = below(from, 14), at = half < 12 ? 2 * half : PANEL_AT_VIDEO_COUNTER + 2 * (half - 12);
         memcpy(damaged, state, sizeof damaged);
-        put16(damaged + 2 * below(from, 12), one_in(from, 2) ? halves[below(from, 15)] : draw32(from));
+        put16(damaged + at, one_in(from, 2) ? halves[below(from, sizeof halves / sizeof *halves)] : draw32(from));
         if (one_in(from, 4))
             damaged[below(from, PANEL_AT_TAGS)] = (uint8_t)draw32(from);
         pair_state(pair, damaged);
@@ -207,8 +225,8 @@ void try_damage(uint32_t pages, uint64_t seed)
     uint8_t fresh[MODEL_STATE], open[MODEL_STATE];
     make(&pair, pages, fresh);
     open_state(open, pages);
-    damage_bytes(&pair, fresh);
-    damage_bytes(&pair, open);
+    damage_parts(&pair, fresh);
+    damage_parts(&pair, open);
     damage_more(&pair, open, &from);
     end(&pair);
 }
@@ -219,12 +237,12 @@ void try_damage(uint32_t pages, uint64_t seed)
 void try_fresh(uint32_t pages)
 {
     static const uint32_t others[] = {0, 1, 2, 9, 256, 257, 258, 512, 65536, 65537, 0x80000001, 0xFFFFFFFF};
-    static const size_t lengths[] = {MODEL_STATE, 0, 1, 92, 347, 349, 512};
+    static const size_t lengths[] = {MODEL_STATE, 0, 1, 92, 347, 348, 349, 511, 513, 604};
     struct pair pair;
     struct source from = source_of(pages);
     uint8_t bytes[MODEL_STATE];
     make(&pair, pages, bytes);
-    for (int l = 0; l < 7; l++)
+    for (size_t l = 0; l < sizeof lengths / sizeof *lengths; l++)
         for (int p = 0; p < 12; p++) {
             draw_bytes(&from, bytes, sizeof bytes);
             pair_state(&pair, bytes);

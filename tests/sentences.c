@@ -1,67 +1,8 @@
 /* sentences.c: sentences of document 01 that no example of the paper shows, each tried on purpose through the C door. The numbers
- * are those of docs/TRACE.md. Nothing here is taken from the model: what is expected is written down from the paper. */
+ * are those of docs/TRACE.md. */
 #include "phases.h"
 
-#include <stdio.h>
-#include <string.h>
-
-#include "model.h"
-#include "pair.h"
-#include "panel.h"
-
-enum { PAGES = 2, PAGE = 1280, BANK = PAGES * PAGE, MEMORY = 4 * BANK, BLOCK = 348 };
-
-static const char *sentence;
-static uint8_t state[BLOCK], memory[MEMORY], old_state[BLOCK], old_memory[MEMORY];
-
-static void expect(const char *fact, uint64_t found, uint64_t expected)
-{
-    char text[200];
-    snprintf(text, sizeof text, "%s: %s", sentence, fact);
-    if (found != expected)
-        wrong(text, found, expected);
-}
-
-static uint64_t call(uint32_t op, uint32_t a, uint32_t b, uint32_t c, uint32_t d, uint32_t data)
-{
-    return panel_call(state, BLOCK, memory, MEMORY, op, a, b, c, d, data);
-}
-
-/* A call that is done: its value. */
-static uint32_t done(uint32_t op, uint32_t a, uint32_t b, uint32_t c, uint32_t d, uint32_t data)
-{
-    uint64_t answer = call(op, a, b, c, d, data);
-    expect("a call is done", answer >> 40, 0);
-    return (uint32_t)answer;
-}
-
-static void set(uint32_t number, uint32_t value) { done(PANEL_WRITE_REGISTER, number, 0, 0, 0, value); }
-static uint32_t word(uint32_t slot, uint32_t w) { return done(PANEL_DATA_READ, slot, w, 0, 0, 0); }
-static uint32_t tag(uint32_t slot) { return get32(state + 60 + 4 * slot); }
-
-/* A fresh chip over memory whose bytes differ from page to page. */
-static void fresh(void)
-{
-    for (size_t i = 0; i < MEMORY; i++)
-        memory[i] = (uint8_t)(i * 7 + i / PAGE * 31 + i / 256);
-    expect("a fresh chip", panel_fresh(state, BLOCK, PAGES), 0);
-}
-
-static void keep(void)
-{
-    memcpy(old_state, state, BLOCK);
-    memcpy(old_memory, memory, MEMORY);
-}
-
-/* Since keep, the block has changed in its counter alone, by so many. */
-static void same_but_counter(uint32_t calls)
-{
-    expect("the counter", get32(state + 56), get32(old_state + 56) + calls);
-    expect("the block before the counter", memcmp(state, old_state, 56) != 0, 0);
-    expect("the block behind the counter", memcmp(state + 60, old_state + 60, BLOCK - 60) != 0, 0);
-}
-
-static void same_memory(void) { expect("memory", memcmp(memory, old_memory, MEMORY) != 0, 0); }
+#include "paper.h"
 
 /* Block 39 of page 1 of bank 3 ends with memory; byte 0 lies at line 12, column 72. Of memory that word alone changes. */
 static void bank_part(void)
@@ -285,7 +226,7 @@ static void values(void)
                                         {9, 0, 0, 15, 0, 9}, {10, 0, 0, 15, 3, 9}, {11, 0, 0, 15, 0, 9}, {11, 0, 0, 0, 3, 9},
                                         {12, 0, 0, 0, 0, 7}, {13, 0, 0, 0, 0, 8},  {14, 2, 0, 0, 0, 77}, {2, 0, 0, 0, 0, 0},
                                         {7, 0, 0, 0, 0, 0},  {15, 2, 0, 0, 0, 0},  {1, 0, 0, 0, 0, 0},   {5, 0, 0, 0, 0, 0},
-                                        {6, 0, 0, 0, 0, 0}};
+                                        {6, 0, 0, 0, 0, 0},  {16, 0, 0, 0, 0, 0},  {17, 0, 0, 0, 0, 0}};
     static const uint64_t answers[] = {0,
                                        0,
                                        0,
@@ -302,7 +243,9 @@ static void values(void)
                                        77,
                                        0,
                                        4,
-                                       4};
+                                       4,
+                                       0,
+                                       9};
     fresh();
     for (size_t i = 0; i < sizeof calls / sizeof *calls; i++)
         expect("an answer", call(calls[i][0], calls[i][1], calls[i][2], calls[i][3], calls[i][4], calls[i][5]), answers[i]);
@@ -324,21 +267,12 @@ static void stored(void)
     same_memory();
 }
 
-static const struct {
-    const char *id;
-    void (*try)(void);
-} sentences[] = {{"01-MEM-03", bank_part},  {"01-MEM-09", write_through},       {"01-STA-06", action_bits},
-                 {"01-STA-08", parts},      {"01-CAL-04", tag_writes},          {"01-CAL-06", precharge},
-                 {"01-CAL-07", duplicate},  {"01-CAL-08", duplicate_of_itself}, {"01-CAL-09", load},
-                 {"01-CAL-12", write_back}, {"01-MIS-02", write_back},          {"01-CAL-15", old_word},
-                 {"01-CAL-21", pass_out},   {"01-CAL-27", masked_out},          {"01-CAL-32", initial},
-                 {"01-CAL-33", stateless},  {"01-CAL-34", stateless},           {"01-NUM-15", values},
-                 {"01-NUM-17", values},     {"01-FRM-02", bank_part},           {"01-DEM-05", stored}};
+static const struct sentence sentences[] = {
+    {"01-MEM-03", bank_part},  {"01-MEM-09", write_through}, {"01-STA-06", action_bits}, {"01-STA-08", parts},
+    {"01-CAL-04", tag_writes}, {"01-CAL-06", precharge},     {"01-CAL-07", duplicate},   {"01-CAL-08", duplicate_of_itself},
+    {"01-CAL-09", load},       {"01-CAL-12", write_back},    {"01-MIS-02", write_back},  {"01-CAL-15", old_word},
+    {"01-CAL-21", pass_out},   {"01-CAL-27", masked_out},    {"01-CAL-32", initial},     {"01-CAL-33", stateless},
+    {"01-CAL-34", stateless},  {"01-NUM-15", values},        {"01-NUM-17", values},      {"01-FRM-02", bank_part},
+    {"01-DEM-05", stored}};
 
-void try_sentences(void)
-{
-    for (size_t i = 0; i < sizeof sentences / sizeof *sentences; i++) {
-        sentence = sentences[i].id;
-        sentences[i].try();
-    }
-}
+void try_sentences(void) { TRY_EACH(sentences); }

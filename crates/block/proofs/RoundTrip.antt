@@ -19,10 +19,11 @@ use Rattle.lists.proofs.Entries.{entry-holds}
 use Rattle.lists.proofs.Rows.{length-row-at, halves-in, words-in, halves-back, words-back, halves-lt, words-lt}
 use Rattle.chip.specs.declared.Control.{Control}
 use Rattle.chip.specs.declared.Chip.{Chip}
+use Rattle.chip.specs.Video.{videoBytes}
 use Rattle.chip.specs.State.{wellFormed}
-use Rattle.block.specs.Block.{banksAt, registersAt, flagsAt, tagsAt, pixelsAt, pixelBytes, blockBytes, IsBlock, counterAt, header, flags, controlParts, parts, encode, decodeControl, pixelsIn, decode, same, wellFormedBlock}
+use Rattle.block.specs.Block.{banksAt, registersAt, flagsAt, tagsAt, pixelsAt, pixelBytes, videoAt, scanAt, selectAt, blockBytes, IsBlock, counterAt, header, flags, controlParts, parts, encode, decodeControl, pixelsIn, videoIn, decode, same, wellFormedBlock}
 use Rattle.block.specs.Kept.{Sized}
-use Rattle.block.proofs.Parts.{starts, length-encode}
+use Rattle.block.proofs.Parts.{scanRow, starts, length-encode}
 
 -- ---- the flags' word
 
@@ -97,6 +98,15 @@ module _ (chip : Chip) (z : Sized chip) where
   unfolding encode parts controlParts pixelsIn
   pixels-back = part-in 5 (parts chip) (lit< tt) pixelsAt pixelBytes (starts chip z .4) (z .pixels-long)
 
+  video-back : videoIn (encode chip) ≡ chip .video
+  unfolding encode parts controlParts videoIn
+  video-back = part-in 6 (parts chip) (lit< tt) videoAt videoBytes (starts chip z .5) (z .video-long)
+
+  scan-back : halvesAt 2 (encode chip) scanAt ≡ scanRow c
+  unfolding encode parts controlParts
+  scan-back = halves-in 7 (parts chip) (lit< tt) (scanRow c) refl scanAt 2 (starts chip z .6) refl
+      (λ j. entry-holds (λ (x : ℕ). x < 2 ^ 16) (scanRow c) j 0 (lit< tt) (z .scan-fits .0, (z .scan-fits .1, tt)))
+
   -- the first number of a row
   pages-half : halfAt (encode chip) 0 ≡ c .pages
   unfolding numbersAt header
@@ -110,6 +120,14 @@ module _ (chip : Chip) (z : Sized chip) where
   unfolding numbersAt
   counter-word = ap (λ (l : List ℕ). getD l 1 0) flags-back
 
+  scan-half : halfAt (encode chip) scanAt ≡ c .scan .counter
+  unfolding numbersAt
+  scan-half = ap (λ (l : List ℕ). getD l 0 0) scan-back
+
+  select-half : halfAt (encode chip) selectAt ≡ c .scan .select
+  unfolding numbersAt
+  select-half = ap (λ (l : List ℕ). getD l 1 0) scan-back
+
   pub control-read : decodeControl (encode chip) ≡ c
   unfolding decodeControl flags
   control-read = λ i. record {
@@ -120,11 +138,11 @@ module _ (chip : Chip) (z : Sized chip) where
     hit = (ap (λ (f : ℕ). bit f 1) flags-word ∙ flag-1 (c .picking) (c .hit)) i;
     counter = counter-word i;
     tags = tags-back i;
+    scan = record { counter = scan-half i; select = select-half i };
   }
 
   pub decode-encode : decode (encode chip) ≡ chip
-  unfolding decode
-  decode-encode = λ i. record { control = control-read i; pixels = pixels-back i }
+  decode-encode = λ i. record { control = control-read i; pixels = pixels-back i; video = video-back i }
 
   -- a chip is well formed exactly if its block is
   pub encoded-well : wellFormedBlock (encode chip) ≡ wellFormed c
@@ -132,6 +150,10 @@ module _ (chip : Chip) (z : Sized chip) where
   encoded-well = rw (length-encode chip z, header-back, pages-half, same-self (header (c .pages)), flags-word, flags-within c, control-read)
 
 -- ---- a block
+
+-- how long each part is
+abbrev widths : List ℕ
+widths = 16 ∷ 8 ∷ 28 ∷ 8 ∷ 32 ∷ 256 ∷ 160 ∷ 4 ∷ []
 
 same-is : (xs ys : List ℕ) → same xs ys ≡ true → xs ≡ ys
 unfolding same
@@ -173,14 +195,16 @@ well-parts s well =
 module _ (s : List ℕ) (bytes : Bytes s) where
   -- the chip that any block holds is sized
   pub decoded-sized : IsBlock s → Sized (decode s)
-  unfolding decode decodeControl pixelsIn
+  unfolding decodeControl pixelsIn videoIn
   decoded-sized long = record {
     pages-fit = half-at-lt s 0 bytes;
     banks = record { long = length-row-at 2 halfAt 4 s banksAt; fit = halves-lt s bytes 4 banksAt };
     registers = record { long = length-row-at 4 wordAt 7 s registersAt; fit = words-lt s bytes 7 registersAt };
     counter-fits = word-at-lt s counterAt bytes;
     tags = record { long = length-row-at 4 wordAt 8 s tagsAt; fit = words-lt s bytes 8 tagsAt };
+    scan-fits = (half-at-lt s scanAt bytes, half-at-lt s selectAt bytes);
     pixels-long = length-take-le pixelBytes (drop pixelsAt s) (omega (arith, length-drop pixelsAt s, long));
+    video-long = length-take-le videoBytes (drop videoAt s) (omega (arith, length-drop videoAt s, long));
   }
 
   module _ (well : wellFormedBlock s ≡ true) where
@@ -188,8 +212,8 @@ module _ (s : List ℕ) (bytes : Bytes s) where
     long = well-parts s well .0
 
     -- each part written is the block cut at the parts' widths
-    parts-back : parts (decode s) ≡ cut 0 (16 ∷ 8 ∷ 28 ∷ 8 ∷ 32 ∷ 256 ∷ []) s
-    unfolding parts controlParts decode decodeControl pixelsIn flags cut
+    parts-back : parts (decode s) ≡ cut 0 widths s
+    unfolding parts controlParts decodeControl pixelsIn videoIn flags cut
     parts-back =
         let h = ap halves (sym (well-parts s well .1)) ∙ halves-back s bytes 8 0 (omega (arith, long)) in
         let b = halves-back s bytes 4 banksAt (omega (arith, long)) in
@@ -197,9 +221,10 @@ module _ (s : List ℕ) (bytes : Bytes s) where
         let two : words (wordAt s flagsAt ∷ wordAt s counterAt ∷ []) ≡ take 8 (drop flagsAt s) = unfold numbersAt in words-back s bytes 2 flagsAt (omega (arith, long)) in
         let f = ap (λ (x : ℕ). words (x ∷ wordAt s counterAt ∷ [])) (flags-two (wordAt s flagsAt) (well-parts s well .2)) ∙ two in
         let t = words-back s bytes 8 tagsAt (omega (arith, long)) in
-        λ i. h i ∷ b i ∷ r i ∷ f i ∷ t i ∷ take 256 (drop 92 s) ∷ []
+        let v : halves (halfAt s scanAt ∷ halfAt s selectAt ∷ []) ≡ take 4 (drop scanAt s) = unfold numbersAt in halves-back s bytes 2 scanAt (omega (arith, long)) in
+        λ i. h i ∷ b i ∷ r i ∷ f i ∷ t i ∷ take 256 (drop 92 s) ∷ take 160 (drop 348 s) ∷ v i ∷ []
 
     -- a well formed block read and stored is the same bytes
     pub encode-decode : encode (decode s) ≡ s
     unfolding encode total
-    encode-decode = ap flatten parts-back ∙ cut-whole (16 ∷ 8 ∷ 28 ∷ 8 ∷ 32 ∷ 256 ∷ []) s long
+    encode-decode = ap flatten parts-back ∙ cut-whole widths s long

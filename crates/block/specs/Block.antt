@@ -1,4 +1,4 @@
--- 01, Chip state: the stored state block, little endian, as its parts in a row. Assumes nothing.
+-- 01, Chip state, and 02, T-01: the stored state block, little endian, as its parts in a row. Assumes nothing.
 use mathlib.Core.Path.{_≡_}
 use mathlib.Core.Bool.{Bool, true, false, _&&_}
 use mathlib.Core.List.{List, [], _∷_, _++_, flatten}
@@ -9,11 +9,12 @@ use Rattle.bits.specs.Bits.{bit, digit, within}
 use Rattle.lists.specs.Words.{halfAt, wordAt, putWord, halves, words, halvesAt, wordsAt}
 use Rattle.chip.specs.declared.Control.{Control}
 use Rattle.chip.specs.declared.Chip.{Chip}
+use Rattle.chip.specs.Video.{videoBytes}
 use Rattle.chip.specs.State.{wellFormed}
 
 -- ---- where each part lies
 
--- 01: the offsets 16, 24, 52, 60, 92 of banks, registers, flags and counter, tags, pixels; and 348, the whole length
+-- 01: the offsets 16, 24, 52, 60, 92 of banks, registers, flags and counter, tags, pixels
 abbrev pub banksAt : ℕ
 banksAt = 16
 
@@ -29,12 +30,20 @@ tagsAt = 60
 abbrev pub pixelsAt : ℕ
 pixelsAt = 92
 
-abbrev pub blockBytes : ℕ
-blockBytes = 348
-
 -- 01: a pixel buffer of 256 bytes
 abbrev pub pixelBytes : ℕ
 pixelBytes = 256
+
+-- 02, T-01: video buffers, counter and select follow the pixels: 160 bytes, then two 16-bit numbers
+abbrev pub videoAt : ℕ
+videoAt = 348
+
+abbrev pub scanAt : ℕ
+scanAt = 508
+
+-- 02, T-01: the header's last field, the whole length, is 512
+abbrev pub blockBytes : ℕ
+blockBytes = 512
 
 -- a list of a block's length
 abbrev pub IsBlock : List ℕ → Type 0
@@ -52,6 +61,9 @@ counterAt = flagsAt + 4
 
 abbrev pub tagAt : ℕ → ℕ
 tagAt slot = tagsAt + 4 * slot
+
+abbrev pub selectAt : ℕ
+selectAt = scanAt + 2
 
 -- ---- the block written
 
@@ -73,9 +85,14 @@ controlParts c =
     ∷ words (c .tags)
     ∷ []
 
--- 01: then pixels
+-- 01: then pixels; 02, T-01: then video buffers, counter and select
 unfoldable pub parts : Chip → List (List ℕ)
-parts chip = controlParts (chip .control) ++ (chip .pixels ∷ [])
+parts chip =
+    controlParts (chip .control)
+    ++ (chip .pixels
+    ∷ chip .video
+    ∷ halves (chip .control .scan .counter ∷ chip .control .scan .select ∷ [])
+    ∷ [])
 
 unfoldable pub encode : Chip → List ℕ
 encode chip = flatten (parts chip)
@@ -92,13 +109,17 @@ decodeControl s = record {
   hit = bit (wordAt s flagsAt) 1;
   counter = wordAt s counterAt;
   tags = wordsAt 8 s tagsAt;
+  scan = record { counter = halfAt s scanAt; select = halfAt s selectAt };
 }
 
 unfoldable pub pixelsIn : List ℕ → List ℕ
 pixelsIn s = take pixelBytes (drop pixelsAt s)
 
-unfoldable pub decode : List ℕ → Chip
-decode s = record { control = decodeControl s; pixels = pixelsIn s }
+unfoldable pub videoIn : List ℕ → List ℕ
+videoIn s = take videoBytes (drop videoAt s)
+
+abbrev pub decode : List ℕ → Chip
+decode s = record { control = decodeControl s; pixels = pixelsIn s; video = videoIn s }
 
 -- ---- the block changed in place
 
@@ -120,7 +141,7 @@ same (x ∷ xs) [] = false
 same (x ∷ xs) (y ∷ ys) = eqb x y && same xs ys
 
 -- 01: well formed exactly if P is 1 to 257, the other header fields have these values, each open page is below P or 65535, flags have no other
--- bit, and registers hold allowed bits; 01, Numbers: and the block has its length
+-- bit, and registers hold allowed bits; 02, T-01: and counter and select fit; 01, Numbers: and the block has its length
 unfoldable pub wellFormedBlock : List ℕ → Bool
 wellFormedBlock s =
     eqb (length s) blockBytes

@@ -9,6 +9,7 @@ use lib.ListN.{length, getD}
 use Rattle.lists.specs.Words.{Bytes}
 use Rattle.chip.specs.declared.Call.{Call}
 use Rattle.chip.specs.declared.Chip.{Chip}
+use Rattle.chip.specs.Video.{videoBytes}
 use Rattle.chip.specs.State.{wellFormed}
 use Rattle.block.specs.Block.{pixelBytes, encode, decode, wellFormedBlock}
 use Rattle.block.specs.OnBlock.{blockGiven, blockAfter, blockMemory}
@@ -26,7 +27,9 @@ pub record Sized (chip : Chip) : Type 0 where
   pub registers : Listed 7 (2 ^ 32) (chip .control .registers)
   pub counter-fits : chip .control .counter < 2 ^ 32
   pub tags : Listed 8 (2 ^ 32) (chip .control .tags)
+  pub scan-fits : (chip .control .scan .counter < 2 ^ 16) × (chip .control .scan .select < 2 ^ 16)
   pub pixels-long : length (chip .pixels) ≡ pixelBytes
+  pub video-long : length (chip .video) ≡ videoBytes
 
 -- ---- stored and read back
 

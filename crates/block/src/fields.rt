@@ -5,19 +5,25 @@ ghost use Rattle.bits.specs.Bits.{digit, wordIn};
 ghost use Rattle.pixel.specs.Registers.{register};
 ghost use Rattle.lists.specs.Words.{putHalf, putWord};
 ghost use Rattle.bank.specs.Work.{inSlot};
+ghost use Rattle.chip.specs.Video.{videoByte, putOut};
 ghost use Rattle.chip.specs.State.{openPage};
 ghost use Rattle.chip.specs.Changes.{tagOf};
 ghost use Rattle.chip.specs.Effects.{slotByte};
-ghost use Rattle.block.specs.Block.{IsBlock, pageAt, registerAt, flagsAt, pixelsAt, decodeControl, pixelsIn, putTag, tickedIn};
+ghost use Rattle.block.specs.Block.{IsBlock, pageAt, registerAt, flagsAt, pixelsAt, scanAt, selectAt, decodeControl, pixelsIn, videoIn, putTag, tickedIn};
 use super::places::BANKS_AT;
+use super::places::BUFFER_BYTES;
 use super::places::COUNTER_AT;
 use super::places::FLAGS_AT;
 use super::places::HALF_BYTES;
 use super::places::PIXELS_AT;
 use super::places::REGISTER_0_AT;
+use super::places::SCAN_AT;
+use super::places::SELECT_AT;
 use super::places::SLOT_BYTES;
 use super::places::TAGS_AT;
+use super::places::VIDEO_AT;
 use super::places::WORD_BYTES;
+use chip::Scan;
 
 // P, the pages to a bank.
 pub fn pages(s: &[u8]) -> u16
@@ -143,4 +149,40 @@ pub fn put_slot_word(s: &mut [u8], slot: u32, word: u32, x: u32)
         PIXELS_AT + (SLOT_BYTES * (slot as usize) + WORD_BYTES * (word as usize)),
         x,
     );
+}
+
+// The display's counter and select.
+pub fn scan(s: &[u8]) -> Scan
+    requires { ⌜ IsBlock (now s) ⌝ }
+    ensures { λ r. ⌜ r ≡ decodeControl (now (s .entry)) .scan ⌝ }
+{
+    Scan {
+        counter: lists::half_at(s, SCAN_AT),
+        select: lists::half_at(s, SELECT_AT),
+    }
+}
+
+pub fn put_scan_counter(s: &mut [u8], counter: u16)
+    requires { ⌜ IsBlock (now s) ⌝ }
+    ensures { λ _. ⌜ now (s .exit) ≡ putHalf scanAt counter (now (s .entry)) ⌝ }
+{
+    lists::put_half(s, SCAN_AT, counter);
+}
+
+pub fn put_scan_select(s: &mut [u8], select: u16)
+    requires { ⌜ IsBlock (now s) ⌝ }
+    ensures { λ _. ⌜ now (s .exit) ≡ putHalf selectAt select (now (s .entry)) ⌝ }
+{
+    lists::put_half(s, SELECT_AT, select);
+}
+
+// The two bytes of the selected video buffer that a video clock puts out.
+pub fn put_out(s: &[u8], scan: Scan) -> u16
+    requires { ⌜ IsBlock (now s) × (scan .counter ≤ 39) × (scan .select ≤ 1) ⌝ }
+    ensures { λ r. ⌜ r ≡ putOut scan (videoByte (videoIn (now (s .entry)))) ⌝ }
+{
+    lists::half_at(
+        s,
+        VIDEO_AT + (BUFFER_BYTES * (scan.select as usize) + HALF_BYTES * (scan.counter as usize)),
+    )
 }

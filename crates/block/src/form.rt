@@ -3,6 +3,7 @@ ghost use mathlib.Core.Path.{_≡_};
 ghost use lib.ListN.{getD};
 ghost use Rattle.bits.specs.Bits.{every, within};
 ghost use Rattle.lists.specs.Words.{halfAt, halvesAt};
+ghost use Rattle.chip.specs.Video.{scanFits};
 ghost use Rattle.chip.specs.State.{openPage, pageFits, storable};
 ghost use Rattle.block.specs.Block.{IsBlock, header, same, decodeControl, wellFormedBlock};
 use super::fields;
@@ -56,6 +57,17 @@ fn registers_fit(s: &[u8]) -> bool
     bits::within(fields::register(s, 7), 1)
 }
 
+// The display's counter counts modulo 40, and a video buffer is selected.
+fn scan_fits(s: &[u8]) -> bool
+    requires { ⌜ IsBlock (now s) ⌝ }
+    ensures { λ r. ⌜ r ≡ scanFits (decodeControl (now (s .entry)) .scan) ⌝ }
+{
+    if lists::half_at(s, places::SCAN_AT) > 39 {
+        return false;
+    }
+    lists::half_at(s, places::SELECT_AT) <= 1
+}
+
 pub fn well_formed(s: &[u8]) -> bool
     ensures { λ r. ⌜ r ≡ wellFormedBlock (now (s .entry)) ⌝ }
 {
@@ -72,6 +84,9 @@ pub fn well_formed(s: &[u8]) -> bool
         return false;
     }
     if !registers_fit(s) {
+        return false;
+    }
+    if !scan_fits(s) {
         return false;
     }
     bits::within(lists::word_at(s, places::FLAGS_AT), 3)

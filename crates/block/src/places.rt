@@ -1,7 +1,7 @@
-// Where each part of the block lies: document 01's offsets, written here alone. specs/Block.antt has the same for the definitions.
+// Where each part of the block lies: document 01's offsets, and what document 02 adds behind them, written here alone. specs/Block.antt has the same for the definitions.
 
 // The whole length.
-pub const BLOCK_BYTES: usize = 348;
+pub const BLOCK_BYTES: usize = 512;
 
 pub const BANKS_AT: usize = 16;
 
@@ -19,6 +19,20 @@ pub const PIXELS_AT: usize = 92;
 pub const PIXELS_END: usize = PIXELS_AT + PIXEL_BYTES;
 
 pub const PIXEL_BYTES: usize = 256;
+
+// The two video buffers, and where they end.
+pub const VIDEO_AT: usize = PIXELS_END;
+
+pub const VIDEO_END: usize = VIDEO_AT + VIDEO_BYTES;
+
+pub const VIDEO_BYTES: usize = 160;
+
+pub const BUFFER_BYTES: usize = 80;
+
+// The display's counter, and behind it its select.
+pub const SCAN_AT: usize = VIDEO_END;
+
+pub const SELECT_AT: usize = SCAN_AT + HALF_BYTES;
 
 // How many bytes apart numbers of 16 bits, numbers of 32 bits and slots lie.
 pub const HALF_BYTES: usize = 2;

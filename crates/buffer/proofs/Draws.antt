@@ -21,18 +21,22 @@ use Rattle.lists.specs.Words.{Bytes, putWord}
 use Rattle.bank.specs.Work.{inSlot}
 use Rattle.lists.proofs.Words.{word-at-once, part-bytes}
 use Rattle.chip.specs.declared.Control.{Control}
+use Rattle.chip.specs.declared.Chip.{Chip}
 use Rattle.chip.specs.declared.Call.{Call}
+use Rattle.chip.specs.Video.{videoByte, putOut}
 use Rattle.chip.specs.State.{slots}
 use Rattle.chip.specs.Operations.{row, allZero, dataWrite, inRange}
 use Rattle.chip.specs.Painting.{painted, marked, tagWith}
 use Rattle.chip.specs.Changes.{tagOf, withTag, withFlags, withHit, ticked}
-use Rattle.chip.specs.Effects.{slotByte, reading, effect, pixelsAfter}
+use Rattle.chip.specs.Effects.{slotByte, reading, Effect, effect, pixelsAfter, videoAfter}
 use Rattle.chip.specs.Answers.{GivenBack, doneWith, effectGiven}
 use Rattle.chip.specs.Refusals.{asks}
+use Rattle.chip.specs.Calls.{chipAfter}
 use Rattle.chip.proofs.Accepted.{write-range}
 use Rattle.chip.proofs.Tags.{mark-law}
 use Rattle.chip.proofs.SlotWords.{slot-word}
-use Rattle.block.specs.Block.{flagsAt, encode, decodeControl, wellFormedBlock, pixelsIn, pixelsAt, pixelBytes}
+use Rattle.block.specs.Block.{flagsAt, encode, decodeControl, wellFormedBlock, pixelsIn, videoIn, decode, pixelsAt, pixelBytes}
+use Rattle.block.proofs.Parts.{under}
 use Rattle.block.proofs.Puts.{Stores, stores-of, stores-tag, stores-flags, stores-word, ticks, control-stored}
 use Rattle.lists.proofs.Rows.{words-lt}
 use Rattle.own.specs.Own.{ownGiven, ownBlock, hitMarked, settled}
@@ -60,17 +64,19 @@ painted-word registers w old slot pixels bytes =
 -- ---- hit
 
 -- where the two flags are put, picking was on and hit is set; else both stay
-flags-put : {s : List ℕ} {c : Control} {pixels : List ℕ} → Stores s c pixels → (b : Bool) → (b ≡ true → c .picking ≡ true)
-    → Stores (cond b (putWord flagsAt 3 s) s) (withHit c (c .hit || b)) pixels
-flags-put {s} {c} {pixels} h true on =
-    subst (λ (k : Control). Stores (putWord flagsAt 3 s) k pixels) (λ i. withFlags c (sym (on refl) i) (sym (or-true (c .hit)) i)) (stores-flags h true true)
-flags-put {s} {c} {pixels} h false on = subst (λ (b : Bool). Stores s (withHit c b) pixels) (sym (or-false (c .hit))) h
+flags-put : {s : List ℕ} {chip : Chip} → Stores s chip → (b : Bool) → (b ≡ true → chip .control .picking ≡ true)
+    → Stores (cond b (putWord flagsAt 3 s) s) (under chip (withHit (chip .control) (chip .control .hit || b)))
+flags-put {s} {chip} h true on =
+    let c = chip .control in
+    subst (λ (k : Control). Stores (putWord flagsAt 3 s) (under chip k)) (λ i. withFlags c (sym (on refl) i) (sym (or-true (c .hit)) i)) (stores-flags h true true)
+flags-put {s} {chip} h false on = subst (λ (b : Bool). Stores s (under chip (withHit (chip .control) b))) (sym (or-false (chip .control .hit))) h
 
-pub held-hit : {s : List ℕ} {c : Control} {pixels : List ℕ} (sets : Bool) → Stores s c pixels
-    → Stores (hitMarked sets s) (withHit c (c .hit || (c .picking && sets))) pixels
+pub held-hit : {s : List ℕ} {chip : Chip} (sets : Bool) → Stores s chip
+    → Stores (hitMarked sets s) (under chip (withHit (chip .control) (chip .control .hit || (chip .control .picking && sets))))
 unfolding hitMarked
-held-hit {s} {c} {pixels} sets h =
-    subst (λ (p : Bool). Stores (cond (p && sets) (putWord flagsAt 3 s) s) (withHit c (c .hit || (c .picking && sets))) pixels)
+held-hit {s} {chip} sets h =
+    let c = chip .control in
+    subst (λ (p : Bool). Stores (cond (p && sets) (putWord flagsAt 3 s) s) (under chip (withHit c (c .hit || (c .picking && sets)))))
     (sym (ap (λ (k : Control). k .picking) (control-stored h))) (flags-put h (c .picking && sets) (and-left (c .picking) sets))
 
 -- ---- all of it
@@ -79,10 +85,14 @@ tag-lt : (s : List ℕ) → Bytes s → (slot : ℕ) → tagOf (decodeControl s)
 unfolding tagOf decodeControl
 tag-lt s bytes slot = words-lt s bytes 8 60 slot
 
-module _ {s : List ℕ} {c : Control} {pixels : List ℕ} (h : Stores s c pixels) (w : Write) (slot at : ℕ) (o : Outcome) where
+module _ {s : List ℕ} {chip : Chip} (h : Stores s chip) (w : Write) (slot at : ℕ) (o : Outcome) where
+  abbrev c : Control
+  c = chip .control
+
   pub settled-is : slot < 8 → at < 8 → o .taken < 16 → tagOf c slot < 2 ^ 32 → settled w slot at o s ≡ encode (record {
     control = ticked (withHit (withTag c slot (marked (cond (w .initial) 0 (tagOf c slot)) at (o .taken))) (c .hit || (c .picking && (not (w .stateless) && o .written))));
-    pixels = putWord (inSlot slot (4 * at)) (o .word) pixels;
+    pixels = putWord (inSlot slot (4 * at)) (o .word) (chip .pixels);
+    video = chip .video;
   })
   unfolding settled
   settled-is hs ha ht hg =
@@ -101,9 +111,13 @@ pub write-in-range : (P : ℕ) (w : Write) {fits : Bool} → fits ≡ (inRange 8
     → (w .slot < 8) × (w .word < 8) × (w .enables < 16) × (w .passin < 4)
 write-in-range P w told left = write-range 8 P w (and-left (inRange 8 P (dataWrite w)) (allZero []) (test-holds told left))
 
--- what a data write of either kind gives back: pass and written of the outcome, whatever stands at its destination
+-- what a data write of either kind does, as `does` says it (Owns)
+abbrev writes : List ℕ → Write → Effect
+writes s w = effect slots (decodeControl s) (dataWrite w) (reading (slotByte (pixelsIn s)) (putOut (decodeControl s .scan) (videoByte (videoIn s))) (dataWrite w))
+
+-- what it gives back: pass and written of the outcome, whatever stands at its destination
 write-gives : (s : List ℕ) (w : Write) (dest : ℕ) → (let o = outcomeOf (decodeControl s .registers) w (wordIn (slotByte (pixelsIn s) (w .slot)) (w .word)) dest in
-    doneWith 0 (digit (o .pass)) (digit (o .written)) ≡ effectGiven (effect slots (decodeControl s) (dataWrite w) (reading (slotByte (pixelsIn s)) (dataWrite w))))
+    doneWith 0 (digit (o .pass)) (digit (o .written)) ≡ effectGiven (writes s w))
 unfolding effect reading outcomeOf
 write-gives s w dest = refl
 
@@ -122,18 +136,12 @@ module _ (s : List ℕ) (bytes : Bytes s) (well : wellFormedBlock s ≡ true) (w
   at = intoWord registers w
 
   write-leaves : w .slot < 8 → w .word < 8 → w .enables < 16 → (memory : List ℕ)
-      → settled w slot at (outcomeOf registers w old (wordIn (slotByte (pixelsIn s) slot) at)) s ≡ encode (record {
-        control = ticked (effect slots (decodeControl s) (dataWrite w) (reading (slotByte (pixelsIn s)) (dataWrite w)) .control);
-        pixels = pixelsAfter (decodeControl s) (pixelsIn s) memory (effect slots (decodeControl s) (dataWrite w) (reading (slotByte (pixelsIn s)) (dataWrite w)) .move);
-      })
-  unfolding effect pixelsAfter reading outcomeOf hits tagWith slots
+      → settled w slot at (outcomeOf registers w old (wordIn (slotByte (pixelsIn s) slot) at)) s ≡ encode (chipAfter (decode s) memory (writes s w))
+  unfolding effect pixelsAfter videoAfter reading outcomeOf hits tagWith slots
   write-leaves hs hw he memory =
       let o = outcomeOf registers w old (wordIn (slotByte (pixelsIn s) slot) at) in
       settled-is (stores-of s bytes well) w slot at o (into-slot-lt 8 registers w hs) (into-word-lt registers w hw) (taken-lt registers w old he) (tag-lt s bytes slot)
-      ∙ ap (λ (l : List ℕ). encode (record {
-        control = ticked (effect slots (decodeControl s) (dataWrite w) (record { old = old }) .control);
-        pixels = l;
-      })) (painted-word registers w old slot (pixelsIn s) (unfold pixelsIn in part-bytes pixelsAt pixelBytes s bytes))
+      ∙ ap (λ (l : List ℕ). encode (record { control = ticked (writes s w .control); pixels = l; video = videoIn s })) (painted-word registers w old slot (pixelsIn s) (unfold pixelsIn in part-bytes pixelsAt pixelBytes s bytes))
 
   -- past the test of its operands the call is done, and `settle` ends it with the outcome at its destination
   pub write-done : (x : Call) → row x ≡ (dataWrite w, []) → {fits : Bool} → fits ≡ (inRange slots (decodeControl s .pages) (dataWrite w) && allZero []) → not fits ≡ false

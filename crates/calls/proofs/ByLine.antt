@@ -11,13 +11,14 @@ use Rattle.numbers.specs.Numbers.{first, whenDone}
 use Rattle.numbers.proofs.Tests.{and-left, and-right}
 use Rattle.layout.specs.Memory.{size}
 use Rattle.chip.specs.declared.Call.{Call}
+use Rattle.chip.specs.Video.{videoByte, putOut}
 use Rattle.chip.specs.State.{slots}
 use Rattle.chip.specs.Operations.{Operation, isOperation, row, operation}
 use Rattle.chip.specs.Effects.{reading, slotByte, Move, effect, memoryAfter}
 use Rattle.chip.specs.Answers.{GivenBack, numbered}
 use Rattle.chip.specs.Refusals.{number}
 use Rattle.chip.specs.Calls.{readIn, givenWith, chipWith, memoryWith, callGiven, chipOf, memoryOf}
-use Rattle.block.specs.Block.{decodeControl, decode, wellFormedBlock, pixelsIn}
+use Rattle.block.specs.Block.{decodeControl, wellFormedBlock, pixelsIn, videoIn}
 use Rattle.block.specs.OnBlock.{blockGiven, blockAfter, blockMemory}
 use Rattle.block.proofs.RoundTrip.{encode-decode}
 use Rattle.own.specs.Own.{ownNumber, ownGiven, ownBlock, ownMemory}
@@ -40,8 +41,8 @@ pub record Ready (s memory : List ℕ) : Type 0 where
 -- by the number that the definitions give
 refusal : (s memory : List ℕ) (x : Call) → Bytes s → wellFormedBlock s ≡ true
     → {k : ℕ} → number slots (decodeControl s) (length memory) x ≡ suc k → Comes s memory x (numbered (suc k)) s memory
-unfolding blockGiven blockAfter blockMemory callGiven givenWith chipOf chipWith memoryOf memoryWith decode
-refusal s memory x bytes well e = (rw (well, e), rw (well, e) (sym (unfold decode in encode-decode s bytes well)), rw (well, e))
+unfolding blockGiven blockAfter blockMemory callGiven givenWith chipOf chipWith memoryOf memoryWith
+refusal s memory x bytes well e = (rw (well, e), rw (well, e) (sym (encode-decode s bytes well)), rw (well, e))
 
 pub wrong-length : (s memory : List ℕ) (x : Call) → Bytes s → wellFormedBlock s ≡ true
     → eqb (length memory) (size (decodeControl s .pages)) ≡ false → Comes s memory x (numbered 2) s memory
@@ -49,7 +50,7 @@ wrong-length s memory x bytes well e = refusal s memory x bytes well {k = 1} (un
 
 -- what an operation moves, if it is done
 abbrev does : List ℕ → Operation → Move
-does s o = effect slots (decodeControl s) o (reading (slotByte (pixelsIn s)) o) .move
+does s o = effect slots (decodeControl s) o (reading (slotByte (pixelsIn s)) (putOut (decodeControl s .scan) (videoByte (videoIn s))) o) .move
 
 -- an operation that does nothing to memory leaves it, done or refused
 untouched : (s memory : List ℕ) (x : Call) (o : Operation) (unused : List ℕ) → row x ≡ (o, unused)
@@ -69,16 +70,16 @@ module _ {s memory : List ℕ} (ready : Ready s memory) (x : Call) where
   unknown e = refusal s memory x (ready .bytes) (ready .well) {k = 2}
       (unfold number first in rw (well-control s (ready .well), eq-eqb _ _ (ready .sized), e))
 
-  number-own : 1 ≤ x .op → x .op ≤ 15 → number slots (decodeControl s) (length memory) x ≡ ownNumber s x
+  number-own : 1 ≤ x .op → x .op ≤ 17 → number slots (decodeControl s) (length memory) x ≡ ownNumber s x
   unfolding number first ownNumber isOperation
-  number-own l h = rw (well-control s (ready .well), eq-eqb _ _ (ready .sized), le-leb 1 (x .op) l, le-leb (x .op) 15 h)
+  number-own l h = rw (well-control s (ready .well), eq-eqb _ _ (ready .sized), le-leb 1 (x .op) l, le-leb (x .op) 17 h)
 
   done : number slots (decodeControl s) (length memory) x ≡ 0 → ownNumber s x ≡ 0
       → Comes s memory x (ownGiven s x) (ownBlock s memory x) (ownMemory s memory x)
-  unfolding ownGiven ownBlock ownMemory blockGiven blockAfter blockMemory callGiven givenWith chipOf chipWith memoryOf memoryWith decode
+  unfolding ownGiven ownBlock ownMemory blockGiven blockAfter blockMemory callGiven givenWith chipOf chipWith memoryOf memoryWith
   done n e = (rw (ready .well, n, e), rw (ready .well, n, e), rw (ready .well, n, e))
 
-  known : 1 ≤ x .op → x .op ≤ 15 → Comes s memory x (ownGiven s x) (ownBlock s memory x) (ownMemory s memory x)
+  known : 1 ≤ x .op → x .op ≤ 17 → Comes s memory x (ownGiven s x) (ownBlock s memory x) (ownMemory s memory x)
   unfolding ownGiven ownBlock ownMemory
   known l h = go (ownNumber s x) refl
     where
@@ -87,13 +88,13 @@ module _ {s memory : List ℕ} (ready : Ready s memory) (x : Call) where
       go (suc k) e = rw e (refusal s memory x (ready .bytes) (ready .well) (number-own l h ∙ e))
 
   -- code that does as its operation's own line says
-  pub by-its-line : {g : GivenBack} {s' memory' : List ℕ} → 1 ≤ x .op → x .op ≤ 15
+  pub by-its-line : {g : GivenBack} {s' memory' : List ℕ} → 1 ≤ x .op → x .op ≤ 17
       → g ≡ ownGiven s x → s' ≡ ownBlock s memory x → memory' ≡ ownMemory s memory x → Comes s memory x g s' memory'
   by-its-line l h gives blocks memories = let k = known l h in (gives ∙ k .0, blocks ∙ k .1, memories ∙ k .2)
 
   -- the same, of an operation that does nothing to memory
   pub beside-memory : {g : GivenBack} {s' : List ℕ} {o : Operation} {unused : List ℕ} → row x ≡ (o, unused)
-      → memoryAfter (decodeControl s) (pixelsIn s) memory (does s o) ≡ memory → 1 ≤ x .op → x .op ≤ 15
+      → memoryAfter (decodeControl s) (pixelsIn s) memory (does s o) ≡ memory → 1 ≤ x .op → x .op ≤ 17
       → g ≡ ownGiven s x → s' ≡ ownBlock s memory x → Comes s memory x g s' memory
   beside-memory r e l h gives blocks = by-its-line l h gives blocks (untouched s memory x _ _ r e)
 
@@ -102,4 +103,4 @@ module _ {s memory : List ℕ} (ready : Ready s memory) (x : Call) where
       → memoryAfter (decodeControl s) (pixelsIn s) memory (does s o) ≡ memory → (g ≡ ownGiven s x) × (s' ≡ ownBlock s memory x) → Comes s memory x g s' memory
   unfolding isOperation
   at-number {k = k} is known-op line e own = beside-memory (line is) e
-      (rw is (leb-true 1 k (and-left (leb 1 k) (leb k 15) known-op))) (rw is (leb-true k 15 (and-right (leb 1 k) (leb k 15) known-op))) (own .0) (own .1)
+      (rw is (leb-true 1 k (and-left (leb 1 k) (leb k 17) known-op))) (rw is (leb-true k 17 (and-right (leb 1 k) (leb k 17) known-op))) (own .0) (own .1)

@@ -10,6 +10,8 @@ use chip::Refusal;
 use layout::memory::FOUR_PAGES_BYTES;
 use paging::blocks;
 use paging::pages;
+use video::clocks;
+use video::transfers;
 ghost use mathlib.Core.Path.{_≡_};
 ghost use mathlib.Core.Bool.{true};
 ghost use Prim.Native.Nat.{_≤_};
@@ -36,6 +38,8 @@ fn other(s: &mut [u8], memory: &mut [u8], x: Call) -> Answer
         12 | 13 => slots::write_tag(s, x),
         14 => registers::write_register(s, x),
         15 => registers::read_register(s, x),
+        16 => transfers::video_transfer(s, memory, x),
+        17 => clocks::video_clock(s, x),
         _ => Answer::Refused(Refusal::UnknownOperation),
     }
 }

@@ -10,10 +10,10 @@ use Rattle.numbers.specs.Numbers.{first, whenDone}
 use Rattle.numbers.proofs.Tests.{determined}
 use Rattle.chip.specs.declared.Answer.{Answer}
 use Rattle.chip.specs.declared.Answer.the-variants.{Done, Refused}
-use Rattle.chip.specs.declared.Refusal.the-variants.{IllFormed, MemoryLength, UnknownOperation, OperandOutside, BitNotAllowed, BankOpen, BankClosed}
+use Rattle.chip.specs.declared.Refusal.the-variants.{IllFormed, MemoryLength, UnknownOperation, OperandOutside, BitNotAllowed, BankOpen, BankClosed, BufferInUse}
 use Rattle.chip.specs.declared.Call.{Call}
 use Rattle.chip.specs.declared.Control.{Control}
-use Rattle.chip.specs.Operations.{Operation, access, precharge, duplicate, readBlock, writeBlock, dataRead, dataWrite, writeTag, writeRegister, readRegister, unknown, operation}
+use Rattle.chip.specs.Operations.{Operation, access, precharge, duplicate, readBlock, writeBlock, dataRead, dataWrite, writeTag, writeRegister, readRegister, videoTransfer, videoClock, unknown, operation}
 use Rattle.chip.specs.Answers.{GivenBack, numbered, effectGiven, givenBack}
 use Rattle.chip.specs.Refusals.{asks, callTests, number}
 use Rattle.chip.specs.Calls.{effectIn, givenWith, chipWith, memoryWith}
@@ -32,8 +32,8 @@ first-lt m (x ∷ xs) h b = go (x .1) (first-lt m xs h (b .1))
     go true q = b .0
     go false q = q
 
--- a call's number is 0 to 7
-asks-lt : (c : Control) (o : Operation) → Below 8 (asks c o)
+-- a call's number is 0 to 10
+asks-lt : (c : Control) (o : Operation) → Below 11 (asks c o)
 unfolding asks
 asks-lt c (access b p) = (lit< tt, tt)
 asks-lt c (precharge b) = tt
@@ -45,18 +45,20 @@ asks-lt c (dataWrite w) = tt
 asks-lt c (writeTag m s x) = tt
 asks-lt c (writeRegister r v) = (lit< tt, tt)
 asks-lt c (readRegister r) = tt
+asks-lt c (videoTransfer b l) = (lit< tt, (lit< tt, tt))
+asks-lt c videoClock = tt
 asks-lt c unknown = tt
 
-pub number-lt : (n : ℕ) (c : Control) (len : ℕ) (x : Call) → number n c len x < 8
+pub number-lt : (n : ℕ) (c : Control) (len : ℕ) (x : Call) → number n c len x < 11
 unfolding number callTests
-number-lt n c len x = first-lt 8 _ (lit< tt) (lit< tt, (lit< tt, (lit< tt, (lit< tt, asks-lt c (operation x)))))
+number-lt n c len x = first-lt 11 _ (lit< tt) (lit< tt, (lit< tt, (lit< tt, (lit< tt, asks-lt c (operation x)))))
 
 -- 01, Numbers: numbers are given exactly when stated
 pub numbers-given : NumbersGiven
 unfolding NumbersGiven givenWith
 numbers-given n chip memory x = go (number n (chip .control) (length memory) x)
   where
-    go : (k : ℕ) → whenDone k (effectGiven (effectIn n (chip .control) (chip .pixels) x)) (numbered k) .number ≡ k
+    go : (k : ℕ) → whenDone k (effectGiven (effectIn n chip x)) (numbered k) .number ≡ k
     go zero = refl
     go (suc k) = refl
 
@@ -85,6 +87,10 @@ from g = cond (eqb (g .number) 0)
     ∷ BitNotAllowed
     ∷ BankOpen
     ∷ BankClosed
+    -- 8 and 9 are no refusals of a call
+    ∷ IllFormed
+    ∷ IllFormed
+    ∷ BufferInUse
     ∷ [])
     (g .number - 1) IllFormed))
 
@@ -101,6 +107,7 @@ from-given (Refused OperandOutside) = refl
 from-given (Refused BitNotAllowed) = refl
 from-given (Refused BankOpen) = refl
 from-given (Refused BankClosed) = refl
+from-given (Refused BufferInUse) = refl
 
 -- 01, Expected form: so the promise determines the answer
 pub answer-determined : (a b : Answer) → givenBack a ≡ givenBack b → a ≡ b

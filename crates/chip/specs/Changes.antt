@@ -4,9 +4,10 @@ use mathlib.Core.List.{List, [], _∷_}
 use Prim.Native.Nat.{ℕ, _+_, _-_, _/_, _%_, _^_}
 use lib.Dec.{eqb}
 use lib.ListN.{getD, set}
+use Rattle.chip.specs.declared.Scan.{Scan}
 use Rattle.chip.specs.declared.Control.{Control}
 
--- 01, Chip state: a control part of the same P, with these open pages, registers, picking, hit, counter and tags
+-- 01, Chip state: a control part of the same P and scan, with these open pages, registers, picking, hit, counter and tags
 abbrev pub withParts : Control → List ℕ → List ℕ → Bool → Bool → ℕ → List ℕ → Control
 withParts c banks registers picking hit counter tags = record {
   pages = c .pages;
@@ -16,6 +17,20 @@ withParts c banks registers picking hit counter tags = record {
   hit = hit;
   counter = counter;
   tags = tags;
+  scan = c .scan;
+}
+
+-- 02, T-01: a video clock changes counter and select
+abbrev pub withScan : Control → Scan → Control
+withScan c scan = record {
+  pages = c .pages;
+  banks = c .banks;
+  registers = c .registers;
+  picking = c .picking;
+  hit = c .hit;
+  counter = c .counter;
+  tags = c .tags;
+  scan = scan;
 }
 
 -- 01, Calls: access, precharge and duplicate change the page that is open in a bank

@@ -5,40 +5,49 @@ use Prim.Native.Nat.{ℕ}
 use lib.Bits.{bitOr}
 use lib.ListN.{getD}
 use Rattle.bits.specs.Bits.{wordIn}
-use Rattle.layout.specs.Memory.{place, address}
-use Rattle.bank.specs.Work.{inSlot, loaded, backMask, writtenBack, tagged, copied}
+use Rattle.layout.specs.Memory.{place, onLine, address}
+use Rattle.bank.specs.Work.{inSlot, loaded, backMask, writtenBack, tagged, copied, transferred}
 use Rattle.pixel.specs.declared.Write.{Write}
 use Rattle.pixel.specs.Registers.{register, planeMask}
 use Rattle.pixel.specs.Writes.{intoSlot, passOut, enabled, hits}
 use Rattle.chip.specs.declared.Control.{Control}
+use Rattle.chip.specs.Video.{bufferOf, clocked}
 use Rattle.chip.specs.State.{closed, openPage}
-use Rattle.chip.specs.Operations.{Operation, access, precharge, duplicate, readBlock, writeBlock, dataRead, dataWrite, writeTag, writeRegister, readRegister, unknown}
+use Rattle.chip.specs.Operations.{Operation, access, precharge, duplicate, readBlock, writeBlock, dataRead, dataWrite, writeTag, writeRegister, readRegister, videoTransfer, videoClock, unknown}
 use Rattle.chip.specs.Painting.{painted, tagWith}
-use Rattle.chip.specs.Changes.{withPage, withTag, withHit, withRegister, tagOf}
+use Rattle.chip.specs.Changes.{withPage, withTag, withHit, withRegister, withScan, tagOf}
 
 -- ---- what a call reads of the bytes
 
--- 01, Data write: OLD is the word at (slot, word)
 pub record Reading : Type 0 where
+  -- 01, Data write: OLD is the word at (slot, word)
   pub old : ℕ
+  -- 02, T-01: what a video clock puts out
+  pub out : ℕ
 
--- 01, Calls: no word is read
+-- 01, Calls: nothing is read
 abbrev pub nothingRead : Reading
-nothingRead = record { old = 0 }
+nothingRead = record { old = 0; out = 0 }
 
--- 01, Calls: data read and data write read a word, where byte i of a slot is `byteOf slot i`
-unfoldable pub reading : (ℕ → ℕ → ℕ) → Operation → Reading
-reading byteOf (access bank page) = nothingRead
-reading byteOf (precharge bank) = nothingRead
-reading byteOf (duplicate bank page) = nothingRead
-reading byteOf (readBlock bank block slot) = nothingRead
-reading byteOf (writeBlock masked bank block slot) = nothingRead
-reading byteOf (dataRead slot word) = record { old = wordIn (byteOf slot) word }
-reading byteOf (dataWrite w) = record { old = wordIn (byteOf (w .slot)) (w .word) }
-reading byteOf (writeTag replace slot tag) = nothingRead
-reading byteOf (writeRegister number value) = nothingRead
-reading byteOf (readRegister number) = nothingRead
-reading byteOf unknown = nothingRead
+-- 01, Calls: a word is read
+abbrev pub wordRead : ℕ → Reading
+wordRead old = record { old = old; out = 0 }
+
+-- 01, Calls: data read and data write read a word, where byte i of a slot is `byteOf slot i`; 02, T-01: a video clock reads what it puts out
+unfoldable pub reading : (ℕ → ℕ → ℕ) → ℕ → Operation → Reading
+reading byteOf out (access bank page) = nothingRead
+reading byteOf out (precharge bank) = nothingRead
+reading byteOf out (duplicate bank page) = nothingRead
+reading byteOf out (readBlock bank block slot) = nothingRead
+reading byteOf out (writeBlock masked bank block slot) = nothingRead
+reading byteOf out (dataRead slot word) = wordRead (wordIn (byteOf slot) word)
+reading byteOf out (dataWrite w) = wordRead (wordIn (byteOf (w .slot)) (w .word))
+reading byteOf out (writeTag replace slot tag) = nothingRead
+reading byteOf out (writeRegister number value) = nothingRead
+reading byteOf out (readRegister number) = nothingRead
+reading byteOf out (videoTransfer bank line) = nothingRead
+reading byteOf out videoClock = record { old = 0; out = out }
+reading byteOf out unknown = nothingRead
 
 -- 01, Chip state: byte i of a slot, in the pixel buffer
 unfoldable pub slotByte : List ℕ → ℕ → ℕ → ℕ
@@ -58,6 +67,8 @@ pub data Move : Type 0 where
   back : (bank page block slot mask tag : ℕ) → Move
   -- a data write into its destination slot
   paint : (w : Write) (slot old : ℕ) → Move
+  -- 02, T-01: a scan line into a video buffer
+  transfer : (bank page line : ℕ) → Move
 
 -- 01, Calls and Numbers: a call's value, pass and written, the control part that it leaves (but for the counter), and what it moves
 pub record Effect : Type 0 where
@@ -71,7 +82,7 @@ pub record Effect : Type 0 where
 abbrev pub giving : ℕ → Control → Move → Effect
 giving value c move = record { value = value; pass = false; written = false; control = c; move = move }
 
--- 01, Numbers: a value is 0 except for ops 5, 6, 7, 15
+-- 01, Numbers: a value is 0 except for ops 5, 6, 7, 15; 02, T-01: and 17
 abbrev pub leaving : Control → Move → Effect
 leaving c move = giving 0 c move
 
@@ -114,6 +125,10 @@ effect n c (writeTag replace slot tag) r = leaving (withTag c slot (cond replace
 effect n c (writeRegister number value) r = leaving (withRegister c number value) still
 -- read register: the value is the register's
 effect n c (readRegister number) r = giving (register (c .registers) number) c still
+-- 02, T-01: a video transfer loads one scan line of an open bank's page
+effect n c (videoTransfer bank line) r = leaving c (transfer bank (openPage (c .banks) bank) line)
+-- 02, T-01: each video clock puts out two bytes of the selected buffer
+effect n c videoClock r = giving (r .out) (withScan c (clocked (c .scan))) still
 -- no operation has the number
 effect n c unknown r = leaving c still
 
@@ -128,6 +143,7 @@ pixelsAfter c pixels memory (load bank page block slot) = loaded (address (c .pa
 pixelsAfter c pixels memory (back bank page block slot mask tag) = pixels
 -- data write: into the destination slot
 pixelsAfter c pixels memory (paint w slot old) = painted (c .registers) w old (inSlot slot) pixels
+pixelsAfter c pixels memory (transfer bank page line) = pixels
 
 -- 01, Calls: memory
 unfoldable pub memoryAfter : Control → List ℕ → List ℕ → Move → List ℕ
@@ -139,3 +155,14 @@ memoryAfter c pixels memory (load bank page block slot) = memory
 memoryAfter c pixels memory (back bank page block slot mask tag) =
     writtenBack (address (c .pages) bank page block) mask tag (slotByte pixels slot) memory
 memoryAfter c pixels memory (paint w slot old) = memory
+memoryAfter c pixels memory (transfer bank page line) = memory
+
+-- 02, T-01: the video buffers
+unfoldable pub videoAfter : Control → List ℕ → List ℕ → Move → List ℕ
+videoAfter c video memory still = video
+videoAfter c video memory (copy bank from to) = video
+videoAfter c video memory (load bank page block slot) = video
+videoAfter c video memory (back bank page block slot mask tag) = video
+videoAfter c video memory (paint w slot old) = video
+-- banks 0 and 2 feed buffer 0, banks 1 and 3 feed buffer 1
+videoAfter c video memory (transfer bank page line) = transferred (λ j. place (c .pages) bank page (onLine line j)) (bufferOf bank) memory video

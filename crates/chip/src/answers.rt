@@ -16,6 +16,7 @@ pub fn refusal_number(refusal: Refusal) -> u32
         Refusal::BitNotAllowed => 5,
         Refusal::BankOpen => 6,
         Refusal::BankClosed => 7,
+        Refusal::BufferInUse => 10,
     }
 }
 

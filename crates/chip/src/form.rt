@@ -1,8 +1,10 @@
 // Which states are well formed. The definition is specs/State.antt.
 use super::Control;
+use super::Scan;
 ghost use mathlib.Core.Path.{_≡_};
 ghost use lib.ListN.{getD};
 ghost use Rattle.bits.specs.Bits.{every, within};
+ghost use Rattle.chip.specs.Video.{scanFits};
 ghost use Rattle.chip.specs.State.{openPage, pageFits, storable, wellFormed};
 
 // Whether an open page is below P or 65535: one more, modulo 2^16, is at most P.
@@ -31,13 +33,22 @@ fn registers_fit(registers: [u32; 7]) -> bool
         & bits::within(registers[6], 1)
 }
 
-// Whether a state is well formed: P fits, and so do open pages and registers.
+// Whether the counter counts modulo 40 and a video buffer is selected.
+fn scan_fits(scan: Scan) -> bool
+    ensures { λ r. ⌜ r ≡ scanFits scan ⌝ }
+{
+    (scan.counter <= 39) & (scan.select <= 1)
+}
+
+// Whether a state is well formed: P fits, and so do open pages, registers, and the display's counter and select.
 pub fn well_formed(control: Control) -> bool
     ensures { λ r. ⌜ r ≡ wellFormed control ⌝ }
 {
     let banks = control.banks;
     let registers = control.registers;
+    let scan = control.scan;
     layout::memory::pages_fit(control.pages as u32)
         & banks_fit(control.pages, banks)
         & registers_fit(registers)
+        & scan_fits(scan)
 }

@@ -5,6 +5,7 @@ use super::CLOSED;
 use super::Chip;
 use super::Control;
 use super::Refusal;
+use super::Scan;
 ghost use mathlib.Core.Path.{_≡_};
 ghost use Prim.Native.Nat.{_≤_};
 ghost use Rattle.chip.specs.State.{freshOf};
@@ -25,8 +26,13 @@ pub fn fresh(pages: u16) -> Chip
             hit: false,
             counter: 0,
             tags: [0; 8],
+            scan: Scan {
+                counter: 0,
+                select: 0,
+            },
         },
         pixels: [0; 256],
+        video: [0; 160],
     }
 }
 

@@ -1,10 +1,11 @@
-// A host of one chip, with one page to a bank: it loads a block into a slot, writes a word there, writes the block back, and shows the scan line on
-// which that word stands. docs/HOSTS.md explains it.
+// A host of one chip, with one page to a bank: it loads a block into a slot, writes a word there, writes the block back, shows the scan line on
+// which that word stands, and puts its first bytes out to the display. docs/HOSTS.md explains it.
 use chip::Answer;
 use chip::Answered;
 use chip::Call;
 use chip::Chip;
 use chip::Control;
+use chip::Scan;
 ghost use mathlib.Core.Path.{_≡_};
 ghost use Rattle.chip.specs.Answers.{givenBack};
 ghost use Rattle.chip.specs.Calls.{callGiven, chipOf, memoryOf, freshGiven, freshChip};
@@ -115,6 +116,12 @@ fn write_back(drawn: Chip, memory: &mut [u8]) -> Chip {
     back
 }
 
+// Transfers the scan line into video buffer 0, which is selected, and puts out its first two bytes.
+fn scan_out(back: Chip, memory: &mut [u8]) -> Chip {
+    let filled = step(b"video transfer", back, memory, call(16, 0, 0, 0, 0, 0));
+    step(b"video clock", filled, memory, call(17, 0, 0, 0, 0, 0))
+}
+
 // Keeps the chip as a state block, as before a host stops, and reads it back over a chip that is not well formed.
 fn kept(chip: Chip) -> Chip {
     let mut state = [0u8; block::places::BLOCK_BYTES];
@@ -126,11 +133,12 @@ fn kept(chip: Chip) -> Chip {
     back.chip
 }
 
-// Page 1 is not below P, and the bank is open already.
+// Page 1 is not below P, the bank is open already, and the selected video buffer is not yet put out whole.
 fn be_refused(chip: Chip, memory: &mut [u8]) {
     let control = chip.control;
     show(control, memory, 0, 1, 0);
     step(b"access page", chip, memory, call(1, 0, 0, 0, 0, 0));
+    step(b"video transfer", chip, memory, call(16, 0, 0, 0, 0, 0));
 }
 
 // A chip of no pages, which is not well formed.
@@ -144,8 +152,13 @@ fn ill_formed() -> Chip {
             hit: false,
             counter: 0,
             tags: [0; 8],
+            scan: Scan {
+                counter: 0,
+                select: 0,
+            },
         },
         pixels: [0; 256],
+        video: [0; 160],
     }
 }
 
@@ -159,5 +172,6 @@ fn main() {
     let loaded = load(fresh, &mut memory);
     let drawn = draw(loaded, &mut memory);
     let back = write_back(drawn, &mut memory);
-    be_refused(kept(back), &mut memory);
+    let scanned = scan_out(back, &mut memory);
+    be_refused(kept(scanned), &mut memory);
 }

@@ -9,8 +9,9 @@ use Rattle.numbers.specs.Numbers.{first, whenDone}
 use Rattle.lists.specs.Words.{Bytes}
 use Rattle.chip.specs.declared.Chip.{Chip}
 use Rattle.chip.specs.State.{wellFormed}
-use Rattle.block.specs.Block.{blockBytes, encode, decode, wellFormedBlock}
+use Rattle.block.specs.Block.{blockBytes, encode, decode}
 use Rattle.block.specs.Kept.{Sized}
+use Rattle.hosts.specs.Grown.{grown, readable}
 
 -- 01, Numbers, 1: block not of its length, or state not well formed: here the state is the chip's, and the block is to be written
 unfoldable pub keepNumber : Chip → ℕ → ℕ
@@ -20,13 +21,13 @@ keepNumber chip len = first ((1, not (eqb len blockBytes && wellFormed (chip .co
 unfoldable pub keptBlock : Chip → List ℕ → List ℕ
 keptBlock chip s = whenDone (keepNumber chip (length s)) (encode chip) s
 
--- 01, Numbers, 1: of a block that is read
+-- 01, Numbers, 1: of a block that is read; 02, T-01: or of an older one
 unfoldable pub readNumber : List ℕ → ℕ
-readNumber s = first ((1, not (wellFormedBlock s)) ∷ [])
+readNumber s = first ((1, not (readable s)) ∷ [])
 
 -- the chip after it, where a chip is handed in
 unfoldable pub readChip : Chip → List ℕ → Chip
-readChip chip s = whenDone (readNumber s) (decode s) chip
+readChip chip s = whenDone (readNumber s) (decode (grown s)) chip
 
 -- ---- the round trips, as statements. Proved in proofs/KeptBack.antt
 
@@ -35,7 +36,7 @@ unfoldable pub KeptIsRead : Type 0
 KeptIsRead = (chip other : Chip) (s : List ℕ) → Sized chip → keepNumber chip (length s) ≡ 0
     → (readNumber (keptBlock chip s) ≡ 0) × (readChip other (keptBlock chip s) ≡ chip)
 
--- a block that was read is kept again, over any block of its length
+-- a block that was read is kept again, in the newest form, over any block of its length
 unfoldable pub ReadIsKept : Type 0
 ReadIsKept = (other : Chip) (s over : List ℕ) → Bytes s → readNumber s ≡ 0 → length over ≡ blockBytes
-    → (keepNumber (readChip other s) (length over) ≡ 0) × (keptBlock (readChip other s) over ≡ s)
+    → (keepNumber (readChip other s) (length over) ≡ 0) × (keptBlock (readChip other s) over ≡ grown s)

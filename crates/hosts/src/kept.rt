@@ -1,4 +1,5 @@
 // A chip kept as a state block, and read back: every chip and every slice is answered. The definitions are specs/Keeping.antt.
+use super::older;
 use block::form;
 use block::places;
 use chip::Answer;
@@ -29,15 +30,26 @@ pub fn keep(chip: Chip, state: &mut [u8]) -> Answer
     }
 }
 
-// The chip of a well formed block; else the chip that was handed in.
+// What is answered where a block is refused.
+fn refused(chip: Chip) -> Answered
+    ensures { λ r. ⌜ (givenBack (r .answer) ≡ numbered 1) × (r .chip ≡ chip) ⌝ }
+{
+    Answered {
+        answer: Answer::Refused(Refusal::IllFormed),
+        chip,
+    }
+}
+
+// The chip of a well formed block, of the newest form or an older one; else the chip that was handed in.
 pub fn read(chip: Chip, state: &[u8]) -> Answered
     ensures { λ r. ⌜ (givenBack (r .answer) ≡ numbered (readNumber (now (state .entry)))) × (r .chip ≡ readChip chip (now (state .entry))) ⌝ }
 {
-    if !form::well_formed(state) {
-        return Answered {
-            answer: Answer::Refused(Refusal::IllFormed),
-            chip,
-        };
+    if !older::says_its_length(state) {
+        return refused(chip);
+    }
+    let newest = older::grown(state);
+    if !form::well_formed(&newest) {
+        return refused(chip);
     }
     Answered {
         answer: Answer::Done {
@@ -45,6 +57,6 @@ pub fn read(chip: Chip, state: &[u8]) -> Answered
             pass: false,
             written: false,
         },
-        chip: stored::read(state),
+        chip: stored::read(&newest),
     }
 }

@@ -8,7 +8,7 @@ use native.Mathlib.Omega.{arith}
 use lib.Dec.{eqb}
 use Rattle.pixel.specs.declared.Write.{Write}
 use Rattle.chip.specs.declared.Call.{Call}
-use Rattle.chip.specs.Operations.{access, precharge, duplicate, readBlock, writeBlock, dataRead, dataWrite, writeTag, writeRegister, readRegister, callTable, row}
+use Rattle.chip.specs.Operations.{access, precharge, duplicate, readBlock, writeBlock, dataRead, dataWrite, writeTag, writeRegister, readRegister, videoTransfer, videoClock, callTable, row}
 
 -- the write that a call of 8 to 11 asks for
 abbrev pub asked : Bool → Bool → Call → Write
@@ -74,3 +74,11 @@ module _ (x : Call) where
   pub row-read-register : x .op ≡ 15 → row x ≡ (readRegister (x .a), x .b ∷ x .c ∷ x .d ∷ x .given ∷ [])
   unfolding row callTable
   row-read-register e = rw e
+
+  pub row-video-transfer : x .op ≡ 16 → row x ≡ (videoTransfer (x .a) (x .b), x .c ∷ x .d ∷ x .given ∷ [])
+  unfolding row callTable
+  row-video-transfer e = rw e
+
+  pub row-video-clock : x .op ≡ 17 → row x ≡ (videoClock, x .a ∷ x .b ∷ x .c ∷ x .d ∷ x .given ∷ [])
+  unfolding row callTable
+  row-video-clock e = rw e

@@ -10,15 +10,17 @@ use Rattle.layout.specs.Memory.{size}
 use Rattle.numbers.proofs.Tests.{and-left, test-holds, test-fails, equal, unequal}
 use Rattle.chip.specs.declared.Call.{Call}
 use Rattle.chip.specs.declared.Control.{Control}
+use Rattle.chip.specs.declared.Chip.{Chip}
+use Rattle.chip.specs.Video.{videoByte, putOut}
 use Rattle.chip.specs.State.{slots, closed, openPage, isClosed}
 use Rattle.chip.specs.Operations.{Operation, row, operation, allZero, inRange}
-use Rattle.chip.specs.Changes.{ticked}
-use Rattle.chip.specs.Effects.{Effect, reading, slotByte, effect, pixelsAfter, memoryAfter, still, giving}
+use Rattle.chip.specs.Effects.{Effect, reading, slotByte, effect, pixelsAfter, memoryAfter, videoAfter, still, giving}
 use Rattle.chip.specs.Answers.{GivenBack, doneWith, numbered, effectGiven}
 use Rattle.chip.specs.Refusals.{asks, operandsFit, callTests}
-use Rattle.chip.specs.Calls.{readIn}
+use Rattle.chip.specs.Calls.{readIn, chipAfter}
 use Rattle.chip.proofs.Accepted.{page-range, block-range}
-use Rattle.block.specs.Block.{encode, decodeControl, pixelsIn, tickedIn, wellFormedBlock}
+use Rattle.block.specs.Block.{encode, decodeControl, pixelsIn, videoIn, decode, tickedIn, wellFormedBlock}
+use Rattle.block.proofs.Parts.{under}
 use Rattle.block.proofs.Puts.{Stores, ticks}
 use Rattle.own.specs.Own.{ownNumber, ownGiven, ownBlock, ownMemory}
 use Rattle.own.proofs.WellFormed.{pages-in, page-below}
@@ -54,6 +56,14 @@ pub bank-open : (c : Control) (bank : ℕ) → eqb (openPage (c .banks) bank) 65
 unfolding first isClosed closed
 bank-open c bank e = rw e
 
+-- the chip that an effect on a block's chip leaves, but for the counter
+abbrev pub leaves : Effect → List ℕ → List ℕ → Chip
+leaves e s memory = record {
+  control = e .control;
+  pixels = pixelsAfter (decodeControl s) (pixelsIn s) memory (e .move);
+  video = videoAfter (decodeControl s) (videoIn s) memory (e .move);
+}
+
 -- refused with a number: it is given, and nothing changes
 abbrev pub Unmoved : List ℕ → Call → ℕ → Type 0
 Unmoved s x k = (numbered k ≡ ownGiven s x) × ((memory : List ℕ) → s ≡ ownBlock s memory x) × ((memory : List ℕ) → memory ≡ ownMemory s memory x)
@@ -61,7 +71,7 @@ Unmoved s x k = (numbered k ≡ ownGiven s x) × ((memory : List ℕ) → s ≡ 
 module _ (s : List ℕ) (x : Call) (o : Operation) (unused : List ℕ) (r : row x ≡ (o, unused)) where
   -- what the operation does, if it is done
   abbrev pub does : Effect
-  does = effect slots (decodeControl s) o (reading (slotByte (pixelsIn s)) o)
+  does = effect slots (decodeControl s) o (reading (slotByte (pixelsIn s)) (putOut (decodeControl s .scan) (videoByte (videoIn s))) o)
 
   operation-is : operation x ≡ o
   unfolding operation
@@ -81,10 +91,7 @@ module _ (s : List ℕ) (x : Call) (o : Operation) (unused : List ℕ) (r : row 
     unfolding ownGiven readIn
     done-given = rw (own-number, e, operation-is)
 
-    pub done-block : (memory : List ℕ) → encode (record {
-      control = ticked (does .control);
-      pixels = pixelsAfter (decodeControl s) (pixelsIn s) memory (does .move);
-    }) ≡ ownBlock s memory x
+    pub done-block : (memory : List ℕ) → encode (chipAfter (decode s) memory does) ≡ ownBlock s memory x
     unfolding ownBlock readIn
     done-block memory = rw (own-number, e, operation-is)
 
@@ -94,13 +101,13 @@ module _ (s : List ℕ) (x : Call) (o : Operation) (unused : List ℕ) (r : row 
 
   -- no number applies, the block with its field put stores what the operation leaves, and `done` ends the call
   pub put-done : {c : Control} {v : ℕ} {put after : List ℕ} {given : GivenBack} → tests (decodeControl s) o unused ≡ 0
-      → Stores put c (pixelsIn s) → giving v c still ≡ does → (given ≡ doneWith v 0 0) × (after ≡ tickedIn put)
+      → Stores put (under (decode s) c) → giving v c still ≡ does → (given ≡ doneWith v 0 0) × (after ≡ tickedIn put)
       → (given ≡ ownGiven s x) × ((memory : List ℕ) → after ≡ ownBlock s memory x)
-  unfolding pixelsAfter
+  unfolding pixelsAfter videoAfter
   put-done none held leaves ends = (
     ends .0 ∙ ap effectGiven leaves ∙ done-given none,
     λ memory. ends .1 ∙ ticks held
-        ∙ ap (λ (e : Effect). encode (record { control = ticked (e .control); pixels = pixelsAfter (decodeControl s) (pixelsIn s) memory (e .move) })) leaves
+        ∙ ap (λ (e : Effect). encode (chipAfter (decode s) memory e)) leaves
         ∙ done-block none memory,
   )
 
@@ -137,15 +144,14 @@ module _ (s : List ℕ) (x : Call) {o : Operation} {unused : List ℕ} (r : row 
     pub ends-given : {g : GivenBack} → g ≡ effectGiven (does s x o unused r) → g ≡ ownGiven s x
     ends-given e = e ∙ done-given s x o unused r none
 
-    pub ends-block : (memory : List ℕ) {left t : List ℕ} → left ≡ tickedIn t
-        → Stores t (does s x o unused r .control) (pixelsAfter (decodeControl s) (pixelsIn s) memory (does s x o unused r .move)) → left ≡ ownBlock s memory x
+    pub ends-block : (memory : List ℕ) {left t : List ℕ} → left ≡ tickedIn t → Stores t (leaves (does s x o unused r) s memory) → left ≡ ownBlock s memory x
     ends-block memory e stored = e ∙ ticks stored ∙ done-block s x o unused r none memory
 
     pub ends-memory : (memory : List ℕ) {left : List ℕ} → left ≡ memoryAfter (decodeControl s) (pixelsIn s) memory (does s x o unused r .move) → left ≡ ownMemory s memory x
     ends-memory memory e = e ∙ done-memory s x o unused r none memory
 
 -- what code put is what is stored
-pub as-stored : {t u : List ℕ} {c : Control} {pixels : List ℕ} → t ≡ u → Stores u c pixels → Stores t c pixels
+pub as-stored : {t u : List ℕ} {chip : Chip} → t ≡ u → Stores u chip → Stores t chip
 as-stored e stored = record { sized = stored .sized; is = e ∙ stored .is }
 
 -- 4 to 6: past the operands' test bank, block and slot are in range

@@ -11,35 +11,30 @@ use Rattle.pixel.specs.declared.Outcome.{Outcome}
 use Rattle.bank.specs.Work.{inSlot}
 use Rattle.chip.specs.declared.Call.{Call}
 use Rattle.chip.specs.State.{slots}
-use Rattle.chip.specs.Changes.{ticked, tagOf}
-use Rattle.chip.specs.Effects.{Effect, pixelsAfter, memoryAfter}
+use Rattle.chip.specs.Changes.{tagOf}
+use Rattle.chip.specs.Effects.{Effect, memoryAfter}
 use Rattle.chip.specs.Answers.{GivenBack, numbered, effectGiven}
 use Rattle.chip.specs.Refusals.{callTests}
-use Rattle.chip.specs.Calls.{effectIn}
-use Rattle.block.specs.Block.{flagsAt, pixelsAt, encode, decodeControl, pixelsIn, putTag, tickedIn}
+use Rattle.chip.specs.Calls.{effectIn, chipAfter}
+use Rattle.block.specs.Block.{flagsAt, pixelsAt, encode, decodeControl, decode, putTag, tickedIn}
 
--- its number: 4 to 7, or 0
+-- its number: 4 to 7 or 10, or 0
 unfoldable pub ownNumber : List ℕ → Call → ℕ
 ownNumber s x = first (callTests slots (decodeControl s) x)
 
 -- what it does, if it is done
 abbrev pub ownEffect : List ℕ → Call → Effect
-ownEffect s x = effectIn slots (decodeControl s) (pixelsIn s) x
+ownEffect s x = effectIn slots (decode s) x
 
 unfoldable pub ownGiven : List ℕ → Call → GivenBack
 ownGiven s x = whenDone (ownNumber s x) (effectGiven (ownEffect s x)) (numbered (ownNumber s x))
 
 -- the block after it, and the memory
 unfoldable pub ownBlock : List ℕ → List ℕ → Call → List ℕ
-ownBlock s memory x = whenDone (ownNumber s x)
-    (encode (record {
-      control = ticked (ownEffect s x .control);
-      pixels = pixelsAfter (decodeControl s) (pixelsIn s) memory (ownEffect s x .move);
-    }))
-    s
+ownBlock s memory x = whenDone (ownNumber s x) (encode (chipAfter (decode s) memory (ownEffect s x))) s
 
 unfoldable pub ownMemory : List ℕ → List ℕ → Call → List ℕ
-ownMemory s memory x = whenDone (ownNumber s x) (memoryAfter (decodeControl s) (pixelsIn s) memory (ownEffect s x .move)) memory
+ownMemory s memory x = whenDone (ownNumber s x) (memoryAfter (decodeControl s) (decode s .pixels) memory (ownEffect s x .move)) memory
 
 -- ---- a data write's outcome, put into the block
 

@@ -5,7 +5,7 @@ ghost use mathlib.Core.Path.{_≡_};
 ghost use Rattle.chip.specs.Answers.{doneWith, givenBack};
 ghost use Rattle.block.specs.Block.{IsBlock, tickedIn};
 
-pub mod operands; // operands.rt: document 01's ranges
+pub mod operands; // operands.rt: the documents' ranges
 
 // The answer of a call that is done and neither passes nor writes; the counter goes on.
 pub fn done(s: &mut [u8], value: u32) -> Answer

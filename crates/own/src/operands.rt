@@ -1,7 +1,7 @@
-// Which operands a call may have: document 01's ranges, and 0 for what its line does not list. No branch: all are tested at once.
+// Which operands a call may have: the documents' ranges, and 0 for what its line does not list. No branch: all are tested at once.
 use chip::Call;
 ghost use mathlib.Core.Path.{_≡_};
-ghost use mathlib.Core.Bool.{_&&_};
+ghost use mathlib.Core.Bool.{true, _&&_};
 ghost use mathlib.Core.List.{[], _∷_};
 ghost use lib.Dec.{leb, ltb};
 ghost use Rattle.chip.specs.Operations.{allZero};
@@ -63,4 +63,18 @@ pub fn number_fits(x: Call) -> bool
     ensures { λ r. ⌜ r ≡ (leb 1 (x .a) && leb (x .a) 7 && allZero (x .b ∷ x .c ∷ x .d ∷ x .given ∷ [])) ⌝ }
 {
     (1 <= x.a) & (x.a <= 7) & ((x.b == 0) & ((x.c == 0) & ((x.d == 0) & (x.given == 0))))
+}
+
+// 16: bank, line.
+pub fn line_fits(x: Call) -> bool
+    ensures { λ r. ⌜ r ≡ (ltb (x .a) 4 && ltb (x .b) 16 && allZero (x .c ∷ x .d ∷ x .given ∷ [])) ⌝ }
+{
+    (x.a < 4) & (x.b < 16) & ((x.c == 0) & ((x.d == 0) & (x.given == 0)))
+}
+
+// 17: none.
+pub fn nothing_given(x: Call) -> bool
+    ensures { λ r. ⌜ r ≡ (true && allZero (x .a ∷ x .b ∷ x .c ∷ x .d ∷ x .given ∷ [])) ⌝ }
+{
+    (x.a == 0) & ((x.b == 0) & ((x.c == 0) & ((x.d == 0) & (x.given == 0))))
 }

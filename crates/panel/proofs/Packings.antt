@@ -32,7 +32,7 @@ use Rattle.panel.specs.Packs.{pointValue, pointPacked, columnPacked, col
 
 -- its number is 0 to 7
 pub number-lt : (s memory : List ℕ) (x : Call) → blockGiven s memory x .number < 256
-unfolding blockGiven callGiven decode NumbersGiven
+unfolding blockGiven callGiven NumbersGiven
 number-lt s memory x = go (wellFormedBlock s)
   where
     go : (well : Bool) → cond well (callGiven (decode s) memory x) (numbered 1) .number < 256
@@ -64,7 +64,7 @@ pub line-told : (s memory : List ℕ) (bank page line : ℕ) {P n : ℕ} → wel
     → P ≡ decodeControl s .pages
     → n ≡ lineNumber P (length memory) bank page line
     → n ≡ blockLineNumber s memory bank page line
-unfolding blockLineNumber decode
+unfolding blockLineNumber
 line-told s memory bank page line well p e =
     rw (e, p, well) (forms.line-told (decodeControl s) (length memory) bank page line (well-control s well))
 

@@ -18,18 +18,16 @@ use Rattle.numbers.proofs.Tests.{none-applies, and-left}
 use Rattle.bank.specs.Work.{inSlot, loaded, backByte, backMask, writtenBack, copied}
 use Rattle.bank.proofs.Backs.{back-leaves, back-settles}
 use Rattle.chip.specs.declared.Control.{Control}
-use Rattle.chip.specs.declared.Call.{Call}
 use Rattle.pixel.specs.Registers.{freshRegisters, register, planeMask}
 use Rattle.chip.specs.State.{openPage, wellFormed}
 use Rattle.pixel.specs.declared.Write.{Write}
-use Rattle.chip.specs.Operations.{Operation, access, precharge, duplicate, readBlock, writeBlock, dataRead, dataWrite, writeTag, writeRegister, readRegister, unknown, operation, inRange}
+use Rattle.chip.specs.Operations.{Operation, access, precharge, duplicate, readBlock, writeBlock, dataRead, dataWrite, writeTag, writeRegister, readRegister, videoTransfer, videoClock, unknown, inRange}
 use Rattle.pixel.proofs.Outcomes.{into-word-lt}
 use Rattle.pixel.specs.Writes.{used, intoSlot, intoWord, taken, result, newByte}
 use Rattle.chip.specs.Painting.{painted, tagWith}
 use Rattle.chip.specs.Changes.{withTag, withRegister, ticked, tagOf}
 use Rattle.chip.specs.Effects.{Reading, nothingRead, reading, slotByte, copy, load, paint, effect, pixelsAfter, memoryAfter}
 use Rattle.chip.specs.Refusals.{asks}
-use Rattle.chip.specs.Calls.{readIn}
 use Rattle.chip.proofs.Accepted.{page-range, block-range, word-range, write-range, open-below}
 use Rattle.picture.specs.Book.{Stand, at, Book, stands, note}
 use Rattle.picture.specs.Flat.{home, pictureByte, pictureAfter}
@@ -52,25 +50,23 @@ module _ (n : ℕ) (c : Control) (p m : List ℕ) (g : Book) (l : List ℕ) (h :
   word-read : (s w b q k : ℕ) → stands g s ≡ at b q k → w < 8 → wordIn (pictureByte (c .pages) g l s) w ≡ wordIn (slotByte p s) w
   word-read s w b q k e hw = word-same _ _ w (λ j hj. byte-same s b q k (4 * w + j) e (omega arith))
 
-  -- both read the same
-  reading-same : (o : Operation) → inRange n (c .pages) o ≡ true → Keeps n c g o → reading (pictureByte (c .pages) g l) o ≡ reading (slotByte p) o
+  -- both read the same, where a clock puts out the same
+  pub reading-same : (out : ℕ) (o : Operation) → inRange n (c .pages) o ≡ true → Keeps n c g o
+      → reading (pictureByte (c .pages) g l) out o ≡ reading (slotByte p) out o
   unfolding reading inRange Keeps
-  reading-same (access b q) r y = refl
-  reading-same (precharge b) r y = refl
-  reading-same (duplicate b q) r y = refl
-  reading-same (readBlock b k s) r y = refl
-  reading-same (writeBlock m b k s) r y = refl
-  reading-same (dataRead s w) r (b, q, k, e) = rw (word-read s w b q k e (word-range n (c .pages) s w r .1))
-  reading-same (dataWrite w) r ((b, q, k, e), y, z, v) = rw (word-read (w .slot) (w .word) b q k e (write-range n (c .pages) w r .1))
-  reading-same (writeTag m s x) r y = refl
-  reading-same (writeRegister a v) r y = refl
-  reading-same (readRegister a) r y = refl
-  reading-same unknown r y = refl
-
-  pub read-same : (x : Call) → inRange n (c .pages) (operation x) ≡ true → Keeps n c g (operation x)
-      → reading (pictureByte (c .pages) g l) (operation x) ≡ readIn p x
-  unfolding readIn
-  read-same x r y = reading-same (operation x) r y
+  reading-same out (access b q) r y = refl
+  reading-same out (precharge b) r y = refl
+  reading-same out (duplicate b q) r y = refl
+  reading-same out (readBlock b k s) r y = refl
+  reading-same out (writeBlock m b k s) r y = refl
+  reading-same out (dataRead s w) r (b, q, k, e) = rw (word-read s w b q k e (word-range n (c .pages) s w r .1))
+  reading-same out (dataWrite w) r ((b, q, k, e), y, z, v) = rw (word-read (w .slot) (w .word) b q k e (write-range n (c .pages) w r .1))
+  reading-same out (writeTag m s x) r y = refl
+  reading-same out (writeRegister a v) r y = refl
+  reading-same out (readRegister a) r y = refl
+  reading-same out (videoTransfer b k) r y = refl
+  reading-same out videoClock r y = refl
+  reading-same out unknown r y = refl
 
   -- ---- what each call does to bytes is what `Holds` has a law for
 
@@ -168,4 +164,6 @@ module _ (n : ℕ) (c : Control) (p m : List ℕ) (g : Book) (l : List ℕ) (h :
   done-holds (writeTag replace s x) r formed range met keeps = absurd (unfold Keeps in keeps)
   done-holds (writeRegister a v) r formed range met keeps = register-call a v (leb-true 1 a (and-left (leb 1 a) (leb a 7) range)) keeps
   done-holds (readRegister a) r formed range met keeps = h
+  done-holds (videoTransfer b k) r formed range met keeps = h
+  done-holds videoClock r formed range met keeps = h
   done-holds unknown r formed range met keeps = h

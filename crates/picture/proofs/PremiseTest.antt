@@ -13,7 +13,7 @@ use Rattle.pixel.specs.Registers.{planeMask}
 use Rattle.pixel.specs.Writes.{intoSlot}
 use Rattle.chip.specs.declared.Control.{Control}
 use Rattle.chip.specs.State.{openPage}
-use Rattle.chip.specs.Operations.{Operation, access, precharge, duplicate, readBlock, writeBlock, dataRead, dataWrite, writeTag, writeRegister, readRegister, unknown}
+use Rattle.chip.specs.Operations.{Operation, access, precharge, duplicate, readBlock, writeBlock, dataRead, dataWrite, writeTag, writeRegister, readRegister, videoTransfer, videoClock, unknown}
 use Rattle.picture.specs.Book.{Stand, none, at, Book, stands, waiting, NoneWaits, Standing}
 use Rattle.picture.specs.Premises.{Keeps}
 
@@ -59,6 +59,8 @@ kept n c g (dataWrite w) =
 kept n c g (writeTag replace slot tag) = false
 kept n c g (writeRegister number value) = not (eqb number 1) || (eqb value (planeMask (c .registers)) || each idle (g .wait))
 kept n c g (readRegister number) = true
+kept n c g (videoTransfer bank line) = true
+kept n c g videoClock = true
 kept n c g unknown = true
 
 -- what holds of each element of a list, and of what stands for none, holds at each place
@@ -141,4 +143,6 @@ kept-keeps n c g (writeTag m s x) e = absurd (false≢true e)
 kept-keeps n c g (writeRegister r v) e = λ one changes.
     none-waits g (or-right (eqb v (planeMask (c .registers))) _ (ne-eqb v (planeMask (c .registers)) changes) (or-right (not (eqb r 1)) _ (rw (eq-eqb r 1 one)) e))
 kept-keeps n c g (readRegister r) e = tt
+kept-keeps n c g (videoTransfer b l) e = tt
+kept-keeps n c g videoClock e = tt
 kept-keeps n c g unknown e = tt

@@ -14,6 +14,7 @@ use Rattle.pixel.specs.Pixel.{matchTest, magnitudeTest, matchPasses, magnitudeP
 use Rattle.pixel.specs.Registers.{register, freshRegisters}
 use Rattle.pixel.specs.Writes.{used, intoSlot, intoWord, passesMatch, passesMagnitude, enabled, taken}
 use Rattle.chip.specs.declared.Call.{Call}
+use Rattle.chip.specs.Video.{freshScan, bufferOf, inUse, counted, clocked}
 use Rattle.chip.specs.State.{slots, closed, openPage, isClosed, writable, freshControl, freshWith}
 use Rattle.chip.specs.Operations.{isOperation, callTable, row, operation, inRange}
 use Rattle.chip.specs.Painting.{marked, tagWith}
@@ -27,15 +28,16 @@ use Rattle.picture.specs.Flat.{flatFresh}
 use Rattle.picture.specs.Drawing.{start}
 use Rattle.picture.specs.Samples.{SettlesOver, ListingSettles, PanesSettle, panes}
 use Rattle.picture.proofs.Nexts.{worldOf}
+use Rattle.picture.proofs.Ready.{formedNumber}
 use Rattle.picture.proofs.PremiseTest.{standing, offPage, offBlock, idle, each, kept}
-use Rattle.picture.proofs.SettlesFrom.{formedNumber, SettlesFrom, ends, done, refused}
+use Rattle.picture.proofs.SettlesFrom.{SettlesFrom, ends, done, refused}
 
 -- calls that keep to the premises from a fresh chip on, whatever the bytes are, do so over any memory
 settles-over : (P : ℕ) (calls : List Call) → pagesFit P ≡ true → SettlesFrom slots (freshControl slots P) (blank slots) calls → SettlesOver P calls
 unfolding SettlesOver start freshWith worldOf freshControl
-settles-over P calls fit settles memory sized = settles .over _ memory (flatFresh P memory) (fresh-well-formed slots P fit) sized
+settles-over P calls fit settles memory sized = settles .over _ _ memory (flatFresh P memory) (fresh-well-formed slots P fit, sized)
 
-pages-fit : (P : ℕ) → 1 ≤ P → P ≤ 257 → pagesFit P ≡ true
+pub pages-fit : (P : ℕ) → 1 ≤ P → P ≤ 257 → pagesFit P ≡ true
 unfolding pagesFit
 pages-fit P low high = rw (le-leb 1 P low, le-leb P 257 high)
 
@@ -67,7 +69,7 @@ listing-settles P low high = settles-over P listing (pages-fit P low high) (list
 -- ---- the longer list
 
 panes-from-fresh : (P : ℕ) → ltb 0 P ≡ true → ltb 1 P ≡ true → SettlesFrom slots (freshControl slots P) (blank slots) panes
-unfolding panes slots formedNumber first callTests operandsFit isOperation row callTable operation inRange asks within writable withRegister switched isClosed openPage closed freshControl freshRegisters effect ticked note blank kept standing offPage offBlock idle each used intoSlot intoWord register bit word passesMatch passesMagnitude matchPasses magnitudePasses matchTest magnitudeTest enabledBy enabled taken marked tagWith
+unfolding panes slots formedNumber first callTests operandsFit isOperation row callTable operation inRange asks inUse bufferOf freshScan clocked counted within writable withRegister switched isClosed openPage closed freshControl freshRegisters effect ticked note blank kept standing offPage offBlock idle each used intoSlot intoWord register bit word passesMatch passesMagnitude matchPasses magnitudePasses matchTest magnitudeTest enabledBy enabled taken marked tagWith
 panes-from-fresh P page0 page1 =
     -- two pages opened, two slots loaded
     done (rw page0) refl (λ r.
@@ -82,6 +84,11 @@ panes-from-fresh P page0 page1 =
     done refl refl (λ r.
     done refl refl (λ r.
     done refl refl (λ r.
+    -- two transfers and a clock; a transfer that is refused: the counter isn't 0
+    done refl refl (λ r.
+    done refl refl (λ r.
+    done refl refl (λ r.
+    refused 10 refl (lit< tt) (
     -- write-backs, each to the slot's own block
     done refl refl (λ r.
     done refl refl (λ r.
@@ -96,7 +103,7 @@ panes-from-fresh P page0 page1 =
     -- slot 0 loaded anew; a page copied over another, where no slot stands for a block of either
     done refl refl (λ r.
     done (rw page1) refl (λ r.
-    ends refl)))))))))))))))))))
+    ends refl)))))))))))))))))))))))
 
 pub panes-settle : PanesSettle
 unfolding PanesSettle

@@ -18,15 +18,16 @@ use Rattle.bank.specs.Work.{tagged}
 use Rattle.chip.specs.declared.Control.{Control}
 use Rattle.chip.specs.declared.Chip.{Chip}
 use Rattle.chip.specs.declared.Call.{Call}
+use Rattle.chip.specs.Video.{freshVideo, freshScan}
 use Rattle.chip.specs.State.{slots, closed, freshControl, freshWith, freshOf}
 use Rattle.pixel.specs.Registers.{freshRegisters}
-use Rattle.chip.specs.Operations.{Operation, access, precharge, duplicate, readBlock, writeBlock, dataRead, dataWrite, writeTag, writeRegister, readRegister, unknown, operation}
+use Rattle.chip.specs.Operations.{Operation, access, precharge, duplicate, readBlock, writeBlock, dataRead, dataWrite, writeTag, writeRegister, readRegister, videoTransfer, videoClock, unknown, operation}
 use Rattle.chip.specs.Changes.{tagOf}
 use Rattle.chip.specs.Effects.{Reading, effect}
 use Rattle.chip.specs.Answers.{GivenBack, numbered, effectGiven, packed}
 use Rattle.chip.specs.Refusals.{number}
 use Rattle.chip.specs.Calls.{readIn, effectIn, givenWith, callGiven, chipOf, memoryOf}
-use Rattle.block.specs.Block.{blockBytes, encode, decode}
+use Rattle.block.specs.Block.{blockBytes, encode}
 use Rattle.block.specs.OnBlock.{callNumber, freshBlockNumber, freshBlock}
 use Rattle.block.specs.Kept.{Sized}
 use Rattle.stored.proofs.StaysSized.{stays-sized}
@@ -72,6 +73,8 @@ module _ (c' : Control) where
   done-number n c (writeTag m s t) r = refl
   done-number n c (writeRegister a v) r = refl
   done-number n c (readRegister a) r = refl
+  done-number n c (videoTransfer b l) r = refl
+  done-number n c videoClock r = refl
   done-number n c unknown r = refl
 
   -- and a refused one
@@ -89,10 +92,10 @@ module _ (c' : Control) where
   call-number chip memory x = go (number slots (chip .control) (length memory) x)
     where
       e : GivenBack
-      e = effectGiven (effectIn slots (chip .control) (chip .pixels) x)
+      e = effectGiven (effectIn slots chip x)
 
       go : (k : ℕ) → numberSeen (operation x) (packed (whenDone k e (numbered k))) ≡ packed (seen (operation x) (whenDone k e (numbered k)) c' .given)
-      go zero = done-number slots (chip .control) (operation x) (readIn (chip .pixels) x)
+      go zero = done-number slots (chip .control) (operation x) (readIn chip x)
       go (suc k) = refused-number (operation x) (suc k)
 
 -- ---- a list of calls
@@ -100,7 +103,7 @@ module _ (c' : Control) where
 door-run : (calls : List Call) (w : World) → Sized (w .chip) → DataFits calls
     → (doorSeen (encode (w .chip)) (w .memory) calls ≡ asNumbers (chipSeen slots w calls))
     × (doorMemory (encode (w .chip)) (w .memory) calls ≡ after slots w calls .memory)
-unfolding doorSeen doorMemory asNumbers chipSeen after next callNumber DataFits decode seen callGiven chipOf memoryOf
+unfolding doorSeen doorMemory asNumbers chipSeen after next callNumber DataFits seen callGiven chipOf memoryOf
 door-run [] w z fit = (refl, refl)
 door-run (x ∷ xs) w z (h, fit) =
     let rest = door-run xs (next slots w x) (stays-sized (w .chip) (w .memory) x z h) fit in
@@ -116,14 +119,16 @@ door-run (x ∷ xs) w z (h, fit) =
 -- ---- from a fresh chip's block on
 
 fresh-sized : (P : ℕ) → pagesFit P ≡ true → Sized (freshOf P)
-unfolding freshOf freshWith freshControl freshRegisters slots closed
+unfolding freshOf freshWith freshControl freshRegisters freshVideo freshScan slots closed
 fresh-sized P e = record {
   pages-fit = omega (arith, pages-between P e .1);
   banks = record { long = refl; fit = λ j. entry-holds (λ x. x < 2 ^ 16) (replicate 4 closed) j 0 (lit< tt) (lit< tt, (lit< tt, (lit< tt, (lit< tt, tt)))) };
   registers = record { long = refl; fit = λ j. entry-holds (λ x. x < 2 ^ 32) freshRegisters j 0 (lit< tt) (lit< tt, (lit< tt, (lit< tt, (lit< tt, (lit< tt, (lit< tt, (lit< tt, tt))))))) };
   counter-fits = lit< tt;
   tags = record { long = refl; fit = λ j. entry-holds (λ x. x < 2 ^ 32) (replicate slots 0) j 0 (lit< tt) (lit< tt, (lit< tt, (lit< tt, (lit< tt, (lit< tt, (lit< tt, (lit< tt, (lit< tt, tt)))))))) };
+  scan-fits = (lit< tt, lit< tt);
   pixels-long = length-replicate {A = ℕ} 256 0;
+  video-long = length-replicate {A = ℕ} 160 0;
 }
 
 pub door-draws : DoorDraws

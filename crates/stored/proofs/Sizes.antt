@@ -17,5 +17,7 @@ sized chip vs g = record {
   registers = record { long = search needs; fit = λ j. let f : Fits w32 (getD (chip .control .registers) j 0) = search needs in f .fits };
   counter-fits = search needs;
   tags = record { long = search needs; fit = λ j. let f : Fits w32 (getD (chip .control .tags) j 0) = search needs in f .fits };
+  scan-fits = (search needs, search needs);
   pixels-long = search needs;
+  video-long = search needs;
 }

@@ -38,6 +38,9 @@ past4 c = past3 (c .before .before)
 abbrev past5 : tie.Else5 → tie.Else1
 past5 c = past4 (c .before .before)
 
+abbrev past6 : tie.Else6 → tie.Else1
+past6 c = past5 (c .before .before)
+
 -- what they told: of the length, the header, P, the banks
 long : (c : tie.Else1) → eqb (length (block c)) blockBytes ≡ true
 long c = eq-eqb _ _ (c .if1 .left)
@@ -85,8 +88,20 @@ returns-6 c =
     let earlier = before .before .before in
     let banks = test-holds (before .before .banks-fit .ensures) (before .if4 .left) in
     let registers = test-holds (past .before .registers-fit .ensures) (past .if5 .left) in
+    sym (rw (long (past5 past), headed (earlier .before .before .before), paged earlier, banks, registers, test-fails (c .before .scan-fits .ensures) (c .if6 .taken)) (and-false (flagged (past5 past))))
+
+returns-7 : tie.Need-returns-7
+unfolding wellFormedBlock wellFormed
+returns-7 c =
+    let last = c .before .before in
+    let past = last .before .before in
+    let before = past .before .before in
+    let earlier = before .before .before in
+    let banks = test-holds (before .before .banks-fit .ensures) (before .if4 .left) in
+    let registers = test-holds (past .before .registers-fit .ensures) (past .if5 .left) in
+    let scan = test-holds (last .before .scan-fits .ensures) (last .if6 .left) in
     c .within .ensures ∙ ap (λ (x : ℕ). within x 3) (c .before .word-at .ensures)
-    ∙ sym (rw (long (past5 past), headed (earlier .before .before .before), paged earlier, banks, registers) (and-true (flagged (past5 past))))
+    ∙ sym (rw (long (past6 last), headed (earlier .before .before .before), paged earlier, banks, registers, scan) (and-true (flagged (past6 last))))
 
 pub well-formed-spec : {M : Type 1} → statement M
-well-formed-spec = tie.close (tie.spec returns (λ c κs. search needs) returns-2 (λ c κs. search needs) (λ c. search needs) (λ c κs. search needs) returns-3 (λ c κs. search needs) returns-4 (λ c κs. search needs) returns-5 (λ c κs. search needs) (λ c κs. search needs) returns-6)
+well-formed-spec = tie.close (tie.spec returns (λ c κs. search needs) returns-2 (λ c κs. search needs) (λ c. search needs) (λ c κs. search needs) returns-3 (λ c κs. search needs) returns-4 (λ c κs. search needs) returns-5 (λ c κs. search needs) returns-6 (λ c κs. search needs) (λ c κs. search needs) returns-7)

@@ -1,5 +1,4 @@
 -- `buffer::registers::write_register`: compare control's write puts the flags too, any other's its register alone. Assumes nothing.
-use mathlib.Core.Bool.{false}
 use mathlib.Core.List.{List}
 use mathlib.Core.Path.{_≡_, sym, ap, _∙_}
 use Prim.Native.Nat.{_≤_, _%_, _^_, ℕ, _<_}
@@ -17,7 +16,8 @@ use Rattle.chip.specs.Changes.{withRegister}
 use Rattle.chip.specs.Effects.{still, leaving, effect}
 use Rattle.chip.specs.Refusals.{asks}
 use Rattle.chip.specs.Answers.{GivenBack, doneWith}
-use Rattle.block.specs.Block.{decodeControl, tickedIn, pixelsIn}
+use Rattle.block.specs.Block.{decodeControl, decode, tickedIn}
+use Rattle.block.proofs.Parts.{under}
 use Rattle.block.proofs.Puts.{Stores, stores-of, stores-register, stores-flags}
 use Rattle.own.specs.Own.{ownGiven, ownBlock}
 use Rattle.own.proofs.Owns.{by-asks, refused, operands-refused, put-done}
@@ -42,7 +42,7 @@ asked c = writeRegister (c .args .x .a) (c .args .x .given)
 range : (c : tie.Else1) → (1 ≤ entry c .args .x .a) × (entry c .args .x .a ≤ 7)
 range c = register-range _ (and-left _ _ (test-holds (c .before .register-fits .ensures) (c .if1 .left)))
 
-held : (c : tie.Else1) → Stores (now (entry c .args .s)) (decodeControl (now (entry c .args .s))) (pixelsIn (now (entry c .args .s)))
+held : (c : tie.Else1) → Stores (now (entry c .args .s)) (decode (now (entry c .args .s)))
 held c = stores-of (now (entry c .args .s)) (λ a. omega (arith, c .before .before .slice-known .given a)) (entry c .pre .1)
 
 given-small : (c : tie.Start) → c .args .x .given < 2 ^ 32
@@ -69,7 +69,7 @@ returns-2 c =
 
 -- past both tests no number applies: the call is done with what was put, if that stores the register's write
 put-register-done : (c : tie.Else2) {k : Control} {put after : List ℕ} {given : GivenBack} → (let start = entry (past c) in let s = now (start .args .s) in let x = start .args .x in
-    Stores put k (pixelsIn s) → k ≡ withRegister (decodeControl s) (x .a) (x .given) → (given ≡ doneWith 0 0 0) × (after ≡ tickedIn put)
+    Stores put (under (decode s) k) → k ≡ withRegister (decodeControl s) (x .a) (x .given) → (given ≡ doneWith 0 0 0) × (after ≡ tickedIn put)
     → (given ≡ ownGiven s x) × ((memory : List ℕ) → after ≡ ownBlock s memory x))
 unfolding inRange asks first effect
 put-register-done c stored is ends =

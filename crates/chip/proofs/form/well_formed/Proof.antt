@@ -6,7 +6,7 @@ use Rattle.chip.proofs.form.well_formed.Tie as tie
 
 returns : tie.Need-returns
 unfolding wellFormed
-returns c = rw (c .registers-fit .ensures, c .before .banks-fit .ensures, c .before .before .pages-fit .ensures)
+returns c = rw (c .scan-fits .ensures, c .before .registers-fit .ensures, c .before .before .banks-fit .ensures, c .before .before .before .pages-fit .ensures)
 
 pub well-formed-spec : {M : Type 1} → statement M
-well-formed-spec = tie.close (tie.spec (λ c. search needs) (λ c κs. search needs) (λ c κs. search needs) (λ c κs. search needs) returns)
+well-formed-spec = tie.close (tie.spec (λ c. search needs) (λ c κs. search needs) (λ c κs. search needs) (λ c κs. search needs) (λ c κs. search needs) returns)

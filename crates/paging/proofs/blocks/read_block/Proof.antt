@@ -10,7 +10,7 @@ use Rattle.layout.specs.Memory.{address}
 use Rattle.bank.specs.Work.{inSlot, loaded}
 use Rattle.chip.specs.State.{openPage, slots}
 use Rattle.chip.specs.Operations.{inRange}
-use Rattle.chip.specs.Effects.{effect, pixelsAfter}
+use Rattle.chip.specs.Effects.{effect, pixelsAfter, videoAfter}
 use Rattle.chip.specs.Refusals.{asks}
 use Rattle.block.specs.Block.{decodeControl}
 use Rattle.bank.proofs.Slots.{slot-inside}
@@ -72,7 +72,7 @@ put-tag-requires : tie.Need-put-tag-requires
 put-tag-requires c κs = (search needs, range (tested (passed (filled c) .before)) .2)
 
 returns-3 : tie.Need-returns-3
-unfolding inRange slots asks effect pixelsAfter loaded
+unfolding inRange slots asks effect pixelsAfter videoAfter loaded
 returns-3 c =
     let done = c .before .before .done in
     let load = filled (tagged c .before) in

@@ -1,5 +1,4 @@
 -- `paging::blocks::write_block`: refused by its two tests; past both memory has the slot's tagged bytes, and the value counts them. Assumes nothing.
-use mathlib.Core.Bool.{false}
 use mathlib.Core.Path.{refl, ap, _∙_}
 use Prim.Native.Nat.{_<_, ℕ}
 use native.Mathlib.Omega.{arith}
@@ -7,7 +6,7 @@ use denote.Ref.{now}
 use borrow.Author.Needs.{needs}
 use Rattle.bank.specs.Work.{tagged}
 use Rattle.chip.specs.Answers.{doneWith}
-use Rattle.chip.specs.Effects.{memoryAfter, effect, pixelsAfter}
+use Rattle.chip.specs.Effects.{memoryAfter, effect, pixelsAfter, videoAfter}
 use Rattle.chip.specs.Operations.{inRange}
 use Rattle.chip.specs.State.{slots}
 use Rattle.chip.specs.Refusals.{asks}
@@ -69,7 +68,7 @@ tag-requires : tie.Need-tag-requires
 tag-requires c κs = let fits = tested (passed (written c) .before) in (entry (fits .before) .pre .0, range fits .2)
 
 returns-3 : tie.Need-returns-3
-unfolding inRange slots asks effect pixelsAfter memoryAfter
+unfolding inRange slots asks effect pixelsAfter videoAfter memoryAfter
 returns-3 c =
     let done = c .before .before .done in
     let wrote = written (counted c .before) in

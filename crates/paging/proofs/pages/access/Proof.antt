@@ -5,7 +5,7 @@ use native.Mathlib.Omega.{arith}
 use denote.Ref.{now}
 use borrow.Author.Needs.{needs}
 use Rattle.chip.specs.Refusals.{asks}
-use Rattle.chip.specs.Effects.{effect, pixelsAfter}
+use Rattle.chip.specs.Effects.{effect, pixelsAfter, videoAfter}
 use Rattle.chip.specs.Operations.{inRange}
 use Rattle.block.specs.Block.{decodeControl}
 use Rattle.block.proofs.Puts.{stores-of, stores-page}
@@ -62,7 +62,7 @@ put-page-requires : tie.Need-put-page-requires
 put-page-requires c κs = let fits = tested (passed c .before) in (entry (fits .before) .pre .0, range fits .0)
 
 returns-3 : tie.Need-returns-3
-unfolding inRange asks effect pixelsAfter
+unfolding inRange asks effect pixelsAfter videoAfter
 returns-3 c =
     let done = c .before .before .done in
     let past = passed (put c .before) in

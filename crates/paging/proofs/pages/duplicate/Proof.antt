@@ -5,7 +5,7 @@ use native.Mathlib.Omega.{arith}
 use denote.Ref.{now}
 use borrow.Author.Needs.{needs}
 use Rattle.chip.specs.Refusals.{asks}
-use Rattle.chip.specs.Effects.{effect, pixelsAfter, memoryAfter}
+use Rattle.chip.specs.Effects.{effect, pixelsAfter, videoAfter, memoryAfter}
 use Rattle.chip.specs.Operations.{inRange}
 use Rattle.block.specs.Block.{decodeControl}
 use Rattle.block.proofs.Puts.{stores-of, stores-page}
@@ -70,7 +70,7 @@ put-page-requires c κs =
     (entry (fits .before) .pre .0, range fits .0)
 
 returns-3 : tie.Need-returns-3
-unfolding inRange asks effect pixelsAfter memoryAfter
+unfolding inRange asks effect pixelsAfter videoAfter memoryAfter
 returns-3 c =
     let done = c .before .before .done in
     let put : tie.After-put-page = c .before .before .before .before .before .before in

@@ -9,7 +9,7 @@ use borrow.Author.Needs.{needs}
 use Rattle.numbers.proofs.Tests.{and-left, test-holds}
 use Rattle.numbers.specs.Numbers.{first}
 use Rattle.chip.specs.Refusals.{asks}
-use Rattle.chip.specs.Effects.{effect, pixelsAfter}
+use Rattle.chip.specs.Effects.{effect, pixelsAfter, videoAfter}
 use Rattle.chip.specs.Operations.{precharge, inRange}
 use Rattle.chip.specs.State.{closed}
 use Rattle.block.specs.Block.{decodeControl}
@@ -42,7 +42,7 @@ put-page-requires : tie.Need-put-page-requires
 put-page-requires c κs = (entry (c .before .before) .pre .0, bank-there (c .before))
 
 returns-2 : tie.Need-returns-2
-unfolding inRange asks first effect pixelsAfter closed
+unfolding inRange asks first effect pixelsAfter videoAfter closed
 returns-2 c =
     let done = c .before .before .done in
     let fits = put c .before .before in

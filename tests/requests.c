@@ -1,0 +1,237 @@
+/* requests.c: sentences of document 02, of the requests that are done, each tried on purpose through the C door. The numbers are
+ * those of docs/TRACE.md. */
+#include "phases.h"
+
+#include "paper.h"
+
+/* ---- T-01: scan-out to the display ---- */
+
+/* Behind the pixels: 160 bytes, then two 16-bit numbers. */
+enum { LINE = 80, BUFFERS_AT = 92 + 8 * 32, VIDEO_COUNTER_AT = BUFFERS_AT + 160, VIDEO_SELECT_AT = VIDEO_COUNTER_AT + 2 };
+
+static uint64_t transfer(uint32_t bank, uint32_t line) { return call(PANEL_VIDEO_TRANSFER, bank, line, 0, 0, 0); }
+static uint32_t clock_out(void) { return done(PANEL_VIDEO_CLOCK, 0, 0, 0, 0, 0); }
+static uint8_t *scan_line(uint32_t bank, uint32_t page, uint32_t line)
+{
+    return memory + bank * BANK + page * PAGE + line * LINE;
+}
+static uint8_t *buffer(uint32_t number) { return state + BUFFERS_AT + LINE * number; }
+
+static void set_scan(uint32_t counter, uint32_t select)
+{
+    put16(state + VIDEO_COUNTER_AT, counter);
+    put16(state + VIDEO_SELECT_AT, select);
+}
+
+/* All banks open at this page. */
+static void fresh_and_open(uint32_t page)
+{
+    fresh();
+    for (uint32_t bank = 0; bank < 4; bank++)
+        done(PANEL_ACCESS_PAGE, bank, page, 0, 0, 0);
+}
+
+/* The next forty clocks put this line out. */
+static void puts_out(const uint8_t *line)
+{
+    for (size_t n = 0; n < 40; n++)
+        expect("two bytes put out", clock_out(), get16(line + 2 * n));
+}
+
+static void two_buffers(void)
+{
+    fresh_and_open(1);
+    expect("a transfer", transfer(2, 5), 0);
+    expect("a transfer", transfer(1, 6), 0);
+    puts_out(scan_line(2, 1, 5));
+    puts_out(scan_line(1, 1, 6));
+}
+
+/* The line goes to the buffer, and nothing else changes. */
+static void transfer_of_a_line(void)
+{
+    for (uint32_t line = 0; line < 16; line++) {
+        fresh_and_open(1);
+        set_scan(line, 0);
+        keep();
+        expect("a transfer", transfer(3, line), 0);
+        expect("the line in the buffer", memcmp(buffer(1), scan_line(3, 1, line), LINE) != 0, 0);
+        memcpy(buffer(1), old_state + BUFFERS_AT + LINE, LINE);
+        same_but_counter(1);
+        same_memory();
+    }
+}
+
+static void bank_to_buffer(void)
+{
+    for (uint32_t bank = 0; bank < 4; bank++) {
+        uint32_t fed = bank == 1 || bank == 3;
+        fresh_and_open(0);
+        keep();
+        expect("a transfer", transfer(bank, 9), 0);
+        expect("the buffer fed", memcmp(buffer(fed), scan_line(bank, 0, 9), LINE) != 0, 0);
+        expect("the other buffer", memcmp(buffer(1 - fed), old_state + BUFFERS_AT, LINE) != 0, 0);
+    }
+}
+
+/* The answer's other bits are 0, and nothing changes but the two counters. */
+static void lower_column_first(void)
+{
+    fresh();
+    buffer(1)[2 * 17] = 0xCD;
+    buffer(1)[2 * 17 + 1] = 0xAB;
+    set_scan(17, 1);
+    keep();
+    expect("the answer", call(PANEL_VIDEO_CLOCK, 0, 0, 0, 0, 0), 0xABCD);
+    put16(state + VIDEO_COUNTER_AT, 17);
+    same_but_counter(1);
+    same_memory();
+}
+
+static void counter_and_select(void)
+{
+    fresh();
+    for (uint32_t n = 0; n < 200; n++) {
+        expect("the video counter", get16(state + VIDEO_COUNTER_AT), n % 40);
+        expect("the select", get16(state + VIDEO_SELECT_AT), n / 40 % 2);
+        expect("the call counter", get32(state + 56), n);
+        clock_out();
+    }
+}
+
+static void video_operands(void)
+{
+    static const uint32_t calls[][6] = {{16, 4, 0, 0, 0, 0}, {16, 0, 16, 0, 0, 0}, {16, 0, 0, 1, 0, 0}, {16, 0, 0, 0, 1, 0},
+                                        {16, 0, 0, 0, 0, 1}, {17, 1, 0, 0, 0, 0},  {17, 0, 1, 0, 0, 0}, {17, 0, 0, 1, 0, 0},
+                                        {17, 0, 0, 0, 1, 0}, {17, 0, 0, 0, 0, 1}};
+    fresh_and_open(0);
+    keep();
+    for (size_t i = 0; i < sizeof calls / sizeof *calls; i++)
+        expect("an operand too many or too large",
+               call(calls[i][0], calls[i][1], calls[i][2], calls[i][3], calls[i][4], calls[i][5]), UINT64_C(4) << 40);
+    same_but_counter(0);
+    expect("the last bank and line", transfer(3, 15), 0);
+}
+
+static void video_fresh(void)
+{
+    static const uint8_t zero[BLOCK - BUFFERS_AT];
+    memset(state, 0xFF, BLOCK);
+    fresh();
+    expect("buffers, counter and select", memcmp(state + BUFFERS_AT, zero, sizeof zero) != 0, 0);
+    puts_out(zero);
+    puts_out(zero);
+}
+
+/* Written there, the parts are what a clock goes by. */
+static void video_parts(void)
+{
+    fresh();
+    expect("the header's last field", get16(state + 14), 512);
+    for (uint32_t i = 0; i < 160; i++)
+        state[BUFFERS_AT + i] = (uint8_t)(i + 1);
+    for (uint32_t i = 0; i < 80; i++) {
+        set_scan(i % 40, i / 40);
+        expect("two bytes put out", clock_out(), 2 * i + 1 + (2 * i + 2) * 256);
+    }
+}
+
+/* Each function of the door refuses it with 1 and leaves it. */
+static void expect_not_taken(size_t length)
+{
+    keep();
+    expect("a call", panel_call(state, length, memory, MEMORY, PANEL_PRECHARGE, 0, 0, 0, 0, 0), UINT64_C(1) << 40);
+    expect("a scan line", panel_scan_line(state, length, memory, MEMORY, 0, 0, 0), UINT64_C(1) << 40);
+    same_but_counter(0);
+    same_memory();
+}
+
+/* The block of 348 bytes as the first version kept it, and its header on a block of the new length. */
+static void old_length(void)
+{
+    fresh();
+    put16(state + 14, 348);
+    expect_not_taken(348);
+    expect_not_taken(BLOCK);
+    expect("a fresh chip in 348 bytes", panel_fresh(state, 348, PAGES), UINT64_C(1) << 40);
+    same_but_counter(0);
+}
+
+/* Bytes that wait are not put out, what is written back later is not, and a refused transfer leaves what the last one brought. */
+static void as_memory_stood(void)
+{
+    uint8_t line[LINE];
+    fresh_and_open(0);
+    puts_out((const uint8_t[LINE]){0});
+    clock_out();
+    memcpy(line, scan_line(2, 0, 4), LINE);
+    done(PANEL_READ_BLOCK, 2, 1, 0, 0, 0); /* lines 4 to 7, columns 0 to 7 */
+    done(PANEL_STATEFUL_WRITE, 0, 0, PANEL_ALL_BYTES, PANEL_PASS_IN, 0x77777777);
+    expect("a transfer while bytes wait", transfer(2, 4), 0);
+    done(PANEL_MASKED_WRITE, 2, 1, 0, 0, 0);
+    expect("memory has them now", get32(scan_line(2, 0, 4)), 0x77777777);
+    for (uint32_t n = 1; n < 40; n++)
+        clock_out(); /* the rest of buffer 1 */
+    expect("the first two bytes", clock_out(), get16(line));
+    expect("a transfer into a buffer in use", transfer(2, 4), UINT64_C(10) << 40);
+    expect("the next two", clock_out(), get16(line + 2));
+}
+
+static void stored_scan(void)
+{
+    static const uint32_t counters[] = {40, 41, 63, 64, 79, 80, 255, 256, 0x8000, 0xFFFF},
+                          selects[] = {2, 3, 255, 256, 0x8001, 0xFFFF};
+    fresh();
+    for (size_t i = 0; i < sizeof counters / sizeof *counters; i++) {
+        set_scan(counters[i], 0);
+        expect_not_taken(BLOCK);
+    }
+    for (size_t i = 0; i < sizeof selects / sizeof *selects; i++) {
+        set_scan(0, selects[i]);
+        expect_not_taken(BLOCK);
+    }
+    set_scan(39, 1);
+    expect("counter 39, select 1", call(PANEL_PRECHARGE, 0, 0, 0, 0, 0), 0);
+}
+
+/* On an open bank and on a closed one, at each counter and select. */
+static void in_use(void)
+{
+    for (uint32_t i = 0; i < 2 * 40 * 4; i++) {
+        uint32_t bank = i % 4, counter = i / 4 % 40, select = i / 160;
+        bool used = counter != 0 && bank % 2 == select;
+        fresh();
+        set_scan(counter, select);
+        expect("a transfer on a closed bank", transfer(bank, 3), UINT64_C(7) << 40);
+        done(PANEL_ACCESS_PAGE, bank, 1, 0, 0, 0);
+        expect("a transfer on an open bank", transfer(bank, 3), used ? UINT64_C(10) << 40 : 0);
+        expect("an operand outside, on an open bank", transfer(bank, 16), UINT64_C(4) << 40);
+    }
+}
+
+static void operations(void)
+{
+    static const uint32_t none[] = {0, 18, 19, 32, 255, 256 + 17, 65536 + 16, 0x80000011, 0xFFFFFFFF};
+    fresh_and_open(0);
+    for (size_t i = 0; i < sizeof none / sizeof *none; i++)
+        expect("no operation", call(none[i], 0, 0, 0, 0, 0), UINT64_C(3) << 40);
+    expect("16", call(16, 0, 0, 0, 0, 0), 0);
+    expect("17", call(17, 0, 0, 0, 0, 0), get16(memory));
+}
+
+static const struct sentence sentences[] = {{"02-T01-01", two_buffers},
+                                            {"02-T01-02", transfer_of_a_line},
+                                            {"02-T01-03", bank_to_buffer},
+                                            {"02-T01-04", lower_column_first},
+                                            {"02-T01-05", counter_and_select},
+                                            {"02-T01-06", video_operands},
+                                            {"02-T01-07", video_fresh},
+                                            {"02-T01-08", video_parts},
+                                            {"02-T01-10", old_length},
+                                            {"02-T01-11", as_memory_stood},
+                                            {"02-T01-12", stored_scan},
+                                            {"02-T01-13", in_use},
+                                            {"02-T01-14", in_use},
+                                            {"02-T01-15", operations}};
+
+void try_requests(void) { TRY_EACH(sentences); }
