@@ -122,7 +122,15 @@ fn scan_out(back: Chip, memory: &mut [u8]) -> Chip {
     step(b"video clock", filled, memory, call(17, 0, 0, 0, 0, 0))
 }
 
-// Keeps the chip as a state block, as before a host stops, and reads it back over a chip that is not well formed.
+// The block as the base kept it: 348 bytes, as its header says at byte 14.
+fn as_the_base_kept_it(state: [u8; block::places::BLOCK_BYTES]) -> [u8; 348] {
+    let mut base = [0u8; 348];
+    stored::put_bytes(&mut base, 0, &state[0..348]);
+    lists::put_half(&mut base, 14, 348);
+    base
+}
+
+// Keeps the chip as a state block, as before a host stops, and reads it back over a chip that is not well formed. An older block is read too.
 fn kept(chip: Chip) -> Chip {
     let mut state = [0u8; block::places::BLOCK_BYTES];
     let answer = hosts::kept::keep(chip, &mut state);
@@ -130,6 +138,10 @@ fn kept(chip: Chip) -> Chip {
     let back = hosts::kept::read(ill_formed(), &state);
     let answer = back.answer;
     tell(b"read", answer);
+    let base = as_the_base_kept_it(state);
+    let older = hosts::kept::read(ill_formed(), &base);
+    let answer = older.answer;
+    tell(b"read of 348 bytes", answer);
     back.chip
 }
 

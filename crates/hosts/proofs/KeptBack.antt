@@ -1,5 +1,5 @@
--- A chip kept as a block and read back is that chip, and a block read and kept again is those bytes: the round trips of the stored state, where
--- neither is refused. Assumes nothing.
+-- A chip kept as a block and read back is that chip, and a block read and kept again is that block in the newest form: the round trips of the
+-- stored state, where neither is refused. Assumes nothing.
 use mathlib.Core.Path.{_≡_, ap, _∙_}
 use mathlib.Core.Bool.{true, _&&_}
 use mathlib.Core.List.{List}
@@ -9,7 +9,6 @@ use lib.ListN.{length}
 use borrow.Author.Tests.{eq-eqb, not-false}
 use Rattle.numbers.specs.Numbers.{first}
 use Rattle.numbers.proofs.Tests.{none-applies, and-right}
-use Rattle.lists.specs.Words.{halfAt}
 use Rattle.chip.specs.declared.Chip.{Chip}
 use Rattle.chip.specs.State.{wellFormed}
 use Rattle.block.specs.Block.{blockBytes, encode, decode, wellFormedBlock}
@@ -17,7 +16,7 @@ use Rattle.block.specs.Kept.{ChipReadBack, BlockReadBack}
 use Rattle.block.proofs.Parts.{length-encode}
 use Rattle.block.proofs.RoundTrip.{well-parts}
 use Rattle.block.proofs.ReadBack.{chip-read-back, block-read-back}
-use Rattle.hosts.specs.Grown.{lengthAt, grown, readable, NewestIsRead}
+use Rattle.hosts.specs.Grown.{grown, saysLength, readable, NewestIsRead}
 use Rattle.hosts.specs.Keeping.{keepNumber, keptBlock, readNumber, readChip, KeptIsRead, ReadIsKept}
 use Rattle.hosts.proofs.Growing.{grown-bytes}
 use Rattle.hosts.proofs.OlderRead.{newest-is-read}
@@ -29,7 +28,7 @@ keep-passed chip len e = not-false _ (none-applies 0 _ _ e .0)
 
 read-passed : (s : List ℕ) → readNumber s ≡ 0 → wellFormedBlock (grown s) ≡ true
 unfolding readNumber readable
-read-passed s e = and-right (eqb (halfAt s lengthAt) (length s)) (wellFormedBlock (grown s)) (not-false _ (none-applies 0 _ _ e .0))
+read-passed s e = and-right (saysLength s) (wellFormedBlock (grown s)) (not-false _ (none-applies 0 _ _ e .0))
 
 pub kept-is-read : KeptIsRead
 unfolding KeptIsRead ChipReadBack NewestIsRead keptBlock readChip readNumber first

@@ -15,7 +15,7 @@ use Rattle.chip.specs.Video.{freshVideo, freshScan, videoBytes}
 use Rattle.chip.specs.State.{wellFormed}
 use Rattle.block.specs.Block.{banksAt, registersAt, flagsAt, counterAt, tagsAt, pixelsAt, pixelBytes, scanAt, selectAt, blockBytes, header, decodeControl, pixelsIn, videoIn, decode, same, wellFormedBlock}
 use Rattle.block.proofs.RoundTrip.{well-parts}
-use Rattle.hosts.specs.Grown.{baseBytes, freshDisplay, lengthAt, longer, grown, readable, baseChip, wellFormedBase, BaseIsRead, NewestIsRead, NoOtherIsRead}
+use Rattle.hosts.specs.Grown.{baseBytes, freshDisplay, lengthAt, longer, grown, saysLength, readable, baseChip, wellFormedBase, BaseIsRead, NewestIsRead, NoOtherIsRead}
 use Rattle.hosts.proofs.SameBytes.{half-same, word-same, halves-same, words-same, part-same}
 use Rattle.hosts.proofs.Longer.{length-longer, longer-front, longer-behind, longer-says}
 use Rattle.hosts.proofs.Growing.{fresh-long, grown-base, grown-other}
@@ -35,6 +35,11 @@ header-says : (s : List ℕ) (n : ℕ) → same (halvesAt 8 s 0) (set (header (h
     ≡ (same (halvesAt 7 s 0) (take 7 (header (halfAt s 0))) && eqb (halfAt s lengthAt) n)
 unfolding header numbersAt
 header-says s n = same-last (halvesAt 7 s 0) (take 7 (header (halfAt s 0))) (halfAt s lengthAt) n refl
+
+header-newest : (s : List ℕ) → same (halvesAt 8 s 0) (header (halfAt s 0))
+    ≡ (same (halvesAt 7 s 0) (take 7 (header (halfAt s 0))) && eqb (halfAt s lengthAt) blockBytes)
+unfolding header
+header-newest s = header-says s blockBytes
 
 regroup : (said headed flagged well : Bool) → (said && (true && (headed && true) && flagged && well)) ≡ (headed && said && flagged && well)
 regroup true headed flagged well = refl
@@ -109,8 +114,7 @@ module _ (s : List ℕ) (e : length s ≡ baseBytes) where
       let seven = halves-same t s 0 14 front 7 0 (omega arith) (omega arith) in
       let pages = half-same t s 0 14 front 0 (omega arith) (omega arith) in
       let flagged = word-same t s 16 baseBytes behind flagsAt (omega arith) (omega arith) in
-      let headed : same (halvesAt 8 t 0) (header (halfAt t 0)) ≡ (same (halvesAt 7 t 0) (take 7 (header (halfAt t 0))) && eqb (halfAt t lengthAt) blockBytes) = unfold header in header-says t blockBytes in
-      rw (grown-base s e, long, headed, header-says s baseBytes, said, seven, pages, flagged, control-base, e)
+      rw (grown-base s e, long, header-newest t, header-says s baseBytes, said, seven, pages, flagged, control-base, e)
       (regroup (eqb (halfAt s lengthAt) baseBytes) (same (halvesAt 7 s 0) (take 7 (header (halfAt s 0)))) (within (wordAt s flagsAt) 3) (wellFormed (baseChip s .control)))
 
 pub base-is-read : BaseIsRead
@@ -133,13 +137,13 @@ newest-is-read s e =
 
 pub no-other-is-read : NoOtherIsRead
 unfolding NoOtherIsRead readable wellFormedBlock
-no-other-is-read s f g = rw (grown-other s f, ne-eqb (length s) blockBytes g) (and-false (eqb (halfAt s lengthAt) (length s)))
+no-other-is-read s f g = rw (grown-other s f, ne-eqb (length s) blockBytes g) (and-false (saysLength s))
 
 -- ---- the tests, as code makes them
 
-pub readable-tested : (s : List ℕ) → readable s ≡ (eqb (halfAt s lengthAt) (length s) && eqb (length (grown s)) blockBytes && wellFormedBlock (grown s))
+pub readable-tested : (s : List ℕ) → readable s ≡ (saysLength s && eqb (length (grown s)) blockBytes && wellFormedBlock (grown s))
 unfolding readable wellFormedBlock
-readable-tested s = twice (eqb (halfAt s lengthAt) (length s)) (eqb (length (grown s)) blockBytes) _ _ _
+readable-tested s = twice (saysLength s) (eqb (length (grown s)) blockBytes) _ _ _
   where
     twice : (a b c d e : Bool) → (a && (b && c && d && e)) ≡ (a && b && (b && c && d && e))
     twice true true c d e = refl

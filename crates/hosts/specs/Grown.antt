@@ -30,6 +30,7 @@ baseBytes = 348
 abbrev pub freshDisplay : List ℕ
 freshDisplay = freshVideo ++ halves (freshScan .counter ∷ freshScan .select ∷ [])
 
+-- 02: a row for each request that adds to the stored form
 unfoldable pub growths : List Growth
 growths =
     -- 02, T-01: a 348-byte block is still read, with fresh values here
@@ -59,9 +60,13 @@ grownThrough (g ∷ gs) s = grownThrough gs (grownBy g s)
 unfoldable pub grown : List ℕ → List ℕ
 grown s = grownThrough growths s
 
+-- 01, Chip state: whether a block says its own length
+abbrev pub saysLength : List ℕ → Bool
+saysLength s = eqb (halfAt s lengthAt) (length s)
+
 -- 02, T-01: a block is read exactly if it says its own length and, grown, is well formed
 unfoldable pub readable : List ℕ → Bool
-readable s = eqb (halfAt s lengthAt) (length s) && wellFormedBlock (grown s)
+readable s = saysLength s && wellFormedBlock (grown s)
 
 -- ---- what is read of each length, as statements. Proved in proofs/OlderRead.antt
 

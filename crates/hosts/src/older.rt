@@ -6,7 +6,7 @@ ghost use lib.Dec.{eqb};
 ghost use lib.ListN.{length};
 ghost use Rattle.lists.specs.Words.{halfAt};
 ghost use Rattle.block.specs.Block.{blockBytes};
-ghost use Rattle.hosts.specs.Grown.{lengthAt, grown};
+ghost use Rattle.hosts.specs.Grown.{lengthAt, grown, saysLength};
 
 // Document 01's block ends where the video buffers start.
 const BASE_BYTES: usize = places::VIDEO_AT;
@@ -16,7 +16,7 @@ const LENGTH_AT: usize = 14;
 
 // Whether a block says its own length, and this is one that blocks have or once had.
 pub fn says_its_length(state: &[u8]) -> bool
-    ensures { λ r. ⌜ r ≡ (eqb (halfAt (now (state .entry)) lengthAt) (length (now (state .entry))) && eqb (length (grown (now (state .entry)))) blockBytes) ⌝ }
+    ensures { λ r. ⌜ r ≡ (saysLength (now (state .entry)) && eqb (length (grown (now (state .entry)))) blockBytes) ⌝ }
 {
     let length = state.len();
     if !((length == places::BLOCK_BYTES) | (length == BASE_BYTES)) {

@@ -51,10 +51,11 @@ pub chip-stored : (chip : Chip) (s : List ℕ) {s₁ s₂ s₃ s₄ : List ℕ} 
 unfolding encode parts
 chip-stored chip s {s₁} z e e₁ e₂ e₃ e₄ =
     let before = controlParts (chip .control) in
-    let behind = chip .pixels ∷ chip .video ∷ halves (scanRow (chip .control)) ∷ [] in
+    let scan = halves (scanRow (chip .control)) in
+    let behind = chip .pixels ∷ chip .video ∷ scan ∷ [] in
     let long : length (flatten before) ≡ pixelsAt = unfold parts controlParts in (start-long 5 (parts chip) (lit< tt) ∙ starts chip z .4) in
-    let laid-behind : sets (sets (sets s₁ pixelsAt (chip .pixels)) videoAt (chip .video)) scanAt (halves (scanRow (chip .control))) ≡ laid behind pixelsAt s₁ = unfold laid in rw (z .pixels-long, z .video-long) in
-    rw (e₄, e₃, e₂) laid-behind
+    let three : sets (sets (sets s₁ pixelsAt (chip .pixels)) videoAt (chip .video)) scanAt scan ≡ laid behind pixelsAt s₁ = unfold laid in rw (z .pixels-long, z .video-long) in
+    rw (e₄, e₃, e₂) three
     ∙ ap (laid behind pixelsAt) (e₁ ∙ laid-from before 0 [] s)
     ∙ (rw (zero-add, long) at (laid-from behind 0 (flatten before) s))
     ∙ ap (sets s 0) (sym (flatten-append before behind))

@@ -1,7 +1,7 @@
 -- `hosts::kept::keep`: a slice of another length and a chip that is not well formed are refused, each by its test; past both the chip is stored.
 -- Assumes nothing.
 use mathlib.Core.Path.{_≡_, refl}
-use mathlib.Core.Bool.{true, _&&_, and-false}
+use mathlib.Core.Bool.{true}
 use lib.Dec.{eqb}
 use lib.ListN.{length}
 use denote.Ref.{now}

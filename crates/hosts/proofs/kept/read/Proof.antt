@@ -11,22 +11,21 @@ use borrow.Author.Needs.{needs}
 use borrow.Author.Tests.{eqb-true}
 use Rattle.numbers.specs.Numbers.{first}
 use Rattle.numbers.proofs.Tests.{and-left, and-right, test-holds, test-fails}
-use Rattle.lists.specs.Words.{halfAt}
 use Rattle.block.specs.Block.{blockBytes, decode, wellFormedBlock}
-use Rattle.hosts.specs.Grown.{lengthAt, grown}
+use Rattle.hosts.specs.Grown.{grown, saysLength}
 use Rattle.hosts.specs.Keeping.{readNumber, readChip}
 use Rattle.hosts.proofs.OlderRead.{readable-tested}
 use Rattle.hosts.proofs.kept.read.Statement.{statement}
 use Rattle.hosts.proofs.kept.read.Tie as tie
 
--- the block, and whether it says its length
 abbrev block : tie.After-says-its-length → List ℕ
 block c = now (c .before .before .args .state)
 
-abbrev says : List ℕ → Bool
-says s = eqb (halfAt s lengthAt) (length s) && eqb (length (grown s)) blockBytes
+-- past the first test it says its length, one that is known
+abbrev known : List ℕ → Bool
+known s = eqb (length (grown s)) blockBytes
 
-said : (c : tie.Else1) → says (block (c .before)) ≡ true
+said : (c : tie.Else1) → (saysLength (block (c .before)) && known (block (c .before))) ≡ true
 said c = test-holds (c .before .says-its-length .ensures) (c .if1 .left)
 
 returns : tie.Need-returns
@@ -38,11 +37,9 @@ returns c =
 grown-requires : tie.Need-grown-requires
 grown-requires c κs =
     let s = block (c .before) in
-    let says-it = eqb (halfAt s lengthAt) (length s) in
-    let known = eqb (length (grown s)) blockBytes in
-    (eqb-true _ _ (and-left says-it known (said c)), eqb-true _ _ (and-right says-it known (said c)))
+    (eqb-true _ _ (and-left (saysLength s) (known s) (said c)), eqb-true _ _ (and-right (saysLength s) (known s) (said c)))
 
--- past that test, from where the grown block is tested
+-- there, from where the grown block is tested
 abbrev past : tie.After-well-formed → tie.Else1
 past c = c .before .before .before
 

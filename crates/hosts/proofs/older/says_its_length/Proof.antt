@@ -7,9 +7,8 @@ use lib.ListN.{length}
 use denote.Ref.{now}
 use borrow.Author.Needs.{needs}
 use borrow.Author.Tests.{eqb-true, not-true, not-false}
-use Rattle.lists.specs.Words.{halfAt}
 use Rattle.block.specs.Block.{blockBytes}
-use Rattle.hosts.specs.Grown.{lengthAt, grown}
+use Rattle.hosts.specs.Grown.{grown, saysLength}
 use Rattle.hosts.proofs.Growing.{grown-long, grown-fits}
 use Rattle.hosts.proofs.older.says_its_length.Statement.{statement}
 use Rattle.hosts.proofs.older.says_its_length.Tie as tie
@@ -22,7 +21,7 @@ returns : tie.Need-returns
 returns c =
     let s = now (c .before .before .args .state) in
     let unknown : eqb (length (grown s)) blockBytes ≡ false = grown-long s ∙ not-true _ (c .if1 .taken) in
-    rw unknown (sym (and-false (eqb (halfAt s lengthAt) (length s))))
+    rw unknown (sym (and-false (saysLength s)))
 
 half-at-requires : tie.Need-half-at-requires
 half-at-requires c κs = omega (arith, grown-fits (now (c .before .before .args .state)) (eqb-true _ _ (known c)))
