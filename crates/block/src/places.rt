@@ -3,6 +3,9 @@
 // The whole length.
 pub const BLOCK_BYTES: usize = 512;
 
+// Where the header says it, in its last field.
+pub const LENGTH_AT: usize = 14;
+
 pub const BANKS_AT: usize = 16;
 
 pub const REGISTERS_AT: usize = 24;

@@ -1,5 +1,6 @@
 // A host of one chip, with one page to a bank: it loads a block into a slot, writes a word there, writes the block back, shows the scan line on
 // which that word stands, and puts its first bytes out to the display. docs/HOSTS.md explains it.
+use block::places;
 use chip::Answer;
 use chip::Answered;
 use chip::Call;
@@ -122,17 +123,17 @@ fn scan_out(back: Chip, memory: &mut [u8]) -> Chip {
     step(b"video clock", filled, memory, call(17, 0, 0, 0, 0, 0))
 }
 
-// The block as the base kept it: 348 bytes, as its header says at byte 14.
-fn as_the_base_kept_it(state: [u8; block::places::BLOCK_BYTES]) -> [u8; 348] {
-    let mut base = [0u8; 348];
-    stored::put_bytes(&mut base, 0, &state[0..348]);
-    lists::put_half(&mut base, 14, 348);
+// The block as the base kept it: 348 bytes, which end where the video buffers start, and its header says so.
+fn as_the_base_kept_it(state: [u8; places::BLOCK_BYTES]) -> [u8; places::VIDEO_AT] {
+    let mut base = [0u8; places::VIDEO_AT];
+    stored::put_bytes(&mut base, 0, &state[0..places::VIDEO_AT]);
+    lists::put_half(&mut base, places::LENGTH_AT, places::VIDEO_AT as u16);
     base
 }
 
 // Keeps the chip as a state block, as before a host stops, and reads it back over a chip that is not well formed. An older block is read too.
 fn kept(chip: Chip) -> Chip {
-    let mut state = [0u8; block::places::BLOCK_BYTES];
+    let mut state = [0u8; places::BLOCK_BYTES];
     let answer = hosts::kept::keep(chip, &mut state);
     tell(b"keep", answer);
     let back = hosts::kept::read(ill_formed(), &state);

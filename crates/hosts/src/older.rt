@@ -11,9 +11,6 @@ ghost use Rattle.hosts.specs.Grown.{lengthAt, grown, saysLength};
 // Document 01's block ends where the video buffers start.
 const BASE_BYTES: usize = places::VIDEO_AT;
 
-// Where the header says the whole length.
-const LENGTH_AT: usize = 14;
-
 // Whether a block says its own length, and this is one that blocks have or once had.
 pub fn says_its_length(state: &[u8]) -> bool
     ensures { λ r. ⌜ r ≡ (saysLength (now (state .entry)) && eqb (length (grown (now (state .entry)))) blockBytes) ⌝ }
@@ -22,7 +19,7 @@ pub fn says_its_length(state: &[u8]) -> bool
     if !((length == places::BLOCK_BYTES) | (length == BASE_BYTES)) {
         return false;
     }
-    lists::half_at(state, LENGTH_AT) as usize == length
+    lists::half_at(state, places::LENGTH_AT) as usize == length
 }
 
 // The block in the newest form: what an older one lacks is 0, and its header says the newest length.
@@ -32,6 +29,6 @@ pub fn grown(state: &[u8]) -> [u8; places::BLOCK_BYTES]
 {
     let mut s = [0; places::BLOCK_BYTES];
     stored::put_bytes(&mut s, 0, state);
-    lists::put_half(&mut s, LENGTH_AT, places::BLOCK_BYTES as u16);
+    lists::put_half(&mut s, places::LENGTH_AT, places::BLOCK_BYTES as u16);
     s
 }
