@@ -109,7 +109,17 @@ void surface_planes(struct surface *surface, uint8_t planes)
 
 /* ---- Drawing ---- */
 
-/* Four pixels, x being a multiple of 4: the pixels from `from` up to `until` of them take the colour. */
+/* How many bytes of a word these are, bit n for byte n. */
+static unsigned bytes_in(uint32_t bytes)
+{
+    unsigned count = 0;
+    for (int n = 0; n < 4; n++)
+        count += bytes >> n & 1;
+    return count;
+}
+
+/* Four pixels, x being a multiple of 4: the pixels from `from` up to `until` of them take the colour. The write's value says
+ * which of them changed: a program that paints a window of its own needs to paint only these again. */
 static void write_word(struct surface *surface, uint32_t x, uint32_t y, uint32_t from, uint32_t until, uint8_t colour)
 {
     uint32_t entry = panel_table_entry(surface->columns, x);
@@ -117,10 +127,12 @@ static void write_word(struct surface *surface, uint32_t x, uint32_t y, uint32_t
     uint32_t line = y % 16, column = panel_column_column(entry);
     uint32_t slot = slot_for(surface, bank, page, panel_block_at(line, column));
     uint32_t enables = (PANEL_ALL_BYTES << from) & (PANEL_ALL_BYTES >> (4 - until));
-    surface_call(surface, PANEL_STATEFUL_WRITE, slot, panel_word_at(line, column), enables, PANEL_PASS_IN,
-                 colour * UINT32_C(0x01010101), "data write");
+    uint32_t changed = surface_call(surface, PANEL_STATEFUL_WRITE, slot, panel_word_at(line, column), enables, PANEL_PASS_IN,
+                                    colour * UINT32_C(0x01010101), "data write");
     surface->slot[slot].waiting = true;
     surface->counts.words_written++;
+    surface->counts.bytes_drawn += bytes_in(enables);
+    surface->counts.bytes_changed += bytes_in(changed);
 }
 
 /* A part of the screen: from left up to right, from top down to bottom, the last two not in it. */

@@ -12,6 +12,7 @@ enum { SURFACE_PAGES = 257, SURFACE_SLOTS = 6 }; /* slots 6 and 7 are left to th
 /* What was done, to be told. */
 struct counts {
     unsigned long pages_opened, blocks_loaded, words_written, blocks_written_back, bytes_written_back;
+    unsigned long bytes_drawn, bytes_changed;
 };
 
 struct surface {

@@ -35,9 +35,10 @@ extern "C" {
 #endif
 
 /* ---- Version: the major number is raised by each growth of the state block, and by all else that a caller must follow; the
- * minor one by what is added beside. A library whose block has another length refuses this header's with PANEL_ILL_FORMED. ---- */
+ * minor one by what is added beside. A library whose block has another length refuses this header's with PANEL_ILL_FORMED; one
+ * of 2.0 takes it, and its data writes have value 0. ---- */
 
-#define PANEL_VERSION_MAJOR 2
+#define PANEL_VERSION_MAJOR 3
 #define PANEL_VERSION_MINOR 0
 
 /* ---- Sizes ---- */
@@ -75,7 +76,7 @@ enum panel_operation {
     PANEL_UNMASKED_WRITE = 6,    /* the same without the plane mask; value (of both): how many bytes are tagged */
     PANEL_DATA_READ = 7,         /* a slot, b word; value: the word */
     PANEL_STATELESS_INITIAL = 8, /* a slot, b word, c byte enables 0 to 15, d pass-in 0 to 3, data: see below */
-    PANEL_STATELESS_WRITE = 9,
+    PANEL_STATELESS_WRITE = 9,   /* value (of all four): which bytes changed, bit n for byte n */
     PANEL_STATEFUL_INITIAL = 10,
     PANEL_STATEFUL_WRITE = 11,
     PANEL_REPLACE_TAG = 12,    /* a slot, data: the slot's tag becomes data */
@@ -92,7 +93,10 @@ enum panel_operation {
  * Stateful writes obey the registers: a write is enabled if pass-in is 3 and both compare tests pass (or decal, see below).
  * Stateless writes ignore registers and pass-in: data goes to the enabled bytes.
  * Initial writes first clear the tag of the slot that they write to, enabled or not; normal writes add to the tag.
- * The answer's pass says that both tests passed, written that the write was enabled; stateless writes answer 1 and 1. */
+ * The answer's pass says that both tests passed, written that the write was enabled; stateless writes answer 1 and 1.
+ * The answer's value says which bytes of the word that was written to changed, and so what to paint again: bit n is 1 exactly
+ * where byte n in the slot differs from before. It is 0 where the write was not enabled, and where it brought what was there
+ * already: such bytes are tagged all the same. */
 
 #define PANEL_ALL_BYTES 15u /* byte enables: all four bytes of the word */
 #define PANEL_PASS_IN 3u    /* pass-in: both inputs high, as a stateful write needs */

@@ -121,6 +121,8 @@ int main(int argc, char **argv)
     try_duties();
     say("stored video counters and selects, all of them", 0, seed);
     try_stored_scans();
+    say("which bytes a data write changes", 0, seed);
+    try_changed();
     try_each_size(seed, count);
     try_sizes(seed, count);
     bool tried = tried_all(), scanned = scanned_all(), drew = drew_all();

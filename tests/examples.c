@@ -61,22 +61,22 @@ static void block_byte(void)
     expect("memory after byte 13 of block 6", memcmp(memory, expected, sizeof memory) != 0, 0);
 }
 
-/* OLD 0F0F0F0Fh, data 33333333h, code 6 under a plane mask and byte enables: the word afterwards. */
-static uint32_t raster(uint32_t mask, uint32_t enables)
+/* OLD 0F0F0F0Fh, data 33333333h, code 6 under a plane mask and byte enables, these bytes changed: the word afterwards. */
+static uint32_t raster(uint32_t mask, uint32_t enables, uint32_t changed)
 {
     fresh();
     call(PANEL_STATELESS_WRITE, 2, 5, PANEL_ALL_BYTES, 0, 0x0F0F0F0F);
     set_register(PANEL_ROP_CONTROL, PANEL_ROP_ALL(PANEL_XOR));
     set_register(PANEL_PLANE_MASK, mask);
-    expect("the write", call(PANEL_STATEFUL_WRITE, 2, 5, enables, PANEL_PASS_IN, 0x33333333), UINT64_C(3) << 32);
+    expect("the write", call(PANEL_STATEFUL_WRITE, 2, 5, enables, PANEL_PASS_IN, 0x33333333), UINT64_C(3) << 32 | changed);
     return panel_value(call(PANEL_DATA_READ, 2, 5, 0, 0, 0));
 }
 
 static void rasters(void)
 {
-    expect("code 6", raster(0xFFFFFFFF, 15), 0x3C3C3C3C);
-    expect("code 6, plane mask FF00FF00", raster(0xFF00FF00, 15), 0x3C0F3C0F);
-    expect("code 6, enables 1", raster(0xFFFFFFFF, 1), 0x0F0F0F3C);
+    expect("code 6", raster(0xFFFFFFFF, 15, 15), 0x3C3C3C3C);
+    expect("code 6, plane mask FF00FF00", raster(0xFF00FF00, 15, 10), 0x3C0F3C0F);
+    expect("code 6, enables 1", raster(0xFFFFFFFF, 1, 1), 0x0F0F0F3C);
 }
 
 static int passes(uint32_t compare, uint32_t data)
@@ -129,12 +129,12 @@ static void page_edges(void)
     expect("page 0 on an open bank", call(PANEL_ACCESS_PAGE, 1, 0, 0, 0, 0), UINT64_C(6) << 40);
 }
 
-/* The small program's listing, as calls. */
+/* The small program's listing, as calls; the third line as document 02 has it (T-02). */
 static void listing(void)
 {
     static const uint32_t in[7][6] = {{1, 0, 0, 0, 0, 0}, {4, 0, 0, 0, 0, 0}, {11, 0, 0, 15, 3, 16909060}, {5, 0, 0, 0, 0, 0},
                                       {7, 0, 0, 0, 0, 0}, {2, 0, 0, 0, 0, 0}, {5, 0, 0, 0, 0, 0}};
-    static const uint32_t out[7][4] = {{0, 0, 0, 0},        {0, 0, 0, 0}, {0, 0, 1, 1}, {0, 4, 0, 0},
+    static const uint32_t out[7][4] = {{0, 0, 0, 0},        {0, 0, 0, 0}, {0, 15, 1, 1}, {0, 4, 0, 0},
                                        {0, 16909060, 0, 0}, {0, 0, 0, 0}, {7, 0, 0, 0}};
     fresh();
     for (int i = 0; i < 7; i++) {

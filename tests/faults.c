@@ -51,6 +51,19 @@ enum fault {
     SIZE_193_TRANSFER,  /* P = 193: a transfer from bank 2 takes line 14 for line 15 */
     LAST_VIDEO_BYTE,    /* page 256 of bank 3: a transfer of line 15 leaves out the last byte */
     STATE_11_CLOCK,     /* state at 11 past a multiple of 16: the last clock of buffer 1 puts out one byte */
+    TOLD_OF_SOURCE,     /* a data write's value says where its destination differs from the source, not from what it was */
+    TOLD_ENABLED,       /* a data write's value is its byte enables where it is written */
+    TOLD_TURNED,        /* a data write's value has byte 0 in bit 3 and byte 3 in bit 0 */
+    TOLD_UNMASKED,      /* a data write's value is of the merge before the plane mask */
+    TOLD_STATEFUL,      /* a stateless write has value 0 */
+    TOLD_NORMAL,        /* an initial write has value 0 */
+    TOLD_7_BITS,        /* a byte that changes in bit 7 alone is not in the value */
+    TOLD_NOT_ENABLED,   /* a write that is not enabled has its byte enables as value */
+    TOLD_TAGGED,        /* a write that tags bytes and changes none has them as value */
+    TOLD_WHOLE_WORD,    /* a data write's value is 15 where any byte changed */
+    TOLD_REFUSED,       /* a data write refused with 4 has a value */
+    TOLD_C3_TO_C2,      /* byte 3 from C3h to C2h is not in the value */
+    TOLD_IN_7_7,        /* write address control 1, slot 7, word 7: the value is 0 */
     COUNTER_12345678,   /* counter 12345678h stays */
     DATA_12345678,      /* a stateful write of data 12345678h is not counted */
 };
@@ -196,6 +209,52 @@ static void miscount(uint8_t *state, const struct call *x, const struct moment *
         put32(state + PANEL_AT_COUNTER, 0);
 }
 
+/* ---- Which bytes changed ---- */
+
+static uint32_t differing(uint32_t before, uint32_t after, uint32_t bits)
+{
+    uint32_t bytes = 0;
+    for (int n = 0; n < 4; n++)
+        bytes |= (uint32_t)(((before ^ after) >> 8 * n & bits) != 0) << n;
+    return bytes;
+}
+
+static uint32_t turned(uint32_t bytes) { return bytes >> 3 | (bytes >> 1 & 2) | (bytes << 1 & 4) | (bytes << 3 & 8); }
+
+/* As if the plane mask were all ones. */
+static uint32_t unmasked(const uint8_t *before, const struct call *x)
+{
+    uint8_t copy[MODEL_STATE];
+    struct drawn drawn;
+    memcpy(copy, before, sizeof copy);
+    put32(copy + PANEL_AT_REGISTERS, PANEL_PLANE_MASK_FRESH);
+    drawn = model_draw(copy, x, model_word(copy, x->a, x->b));
+    return model_merge(copy + PANEL_AT_PIXELS + 32 * drawn.slot + 4 * drawn.word, &drawn);
+}
+
+/* Mistakes in the value of a data write, which is told; before is the state that it met. */
+static uint32_t mistell(const uint8_t *state, const uint8_t *before, const struct call *x, uint64_t answer)
+{
+    struct drawn to = model_draw(before, x, model_word(before, x->a, x->b));
+    uint32_t was = model_word(before, to.slot, to.word), is = model_word(state, to.slot, to.word), told = (uint32_t)answer;
+    bool written = panel_written(answer);
+    switch (planted()) {
+    case TOLD_OF_SOURCE: return written ? differing(model_word(before, x->a, x->b), is, 0xFF) : 0;
+    case TOLD_ENABLED: return written ? x->c : 0;
+    case TOLD_TURNED: return turned(told);
+    case TOLD_UNMASKED: return unmasked(before, x);
+    case TOLD_STATEFUL: return x->op <= PANEL_STATELESS_WRITE ? 0 : told;
+    case TOLD_NORMAL: return x->op == PANEL_STATELESS_INITIAL || x->op == PANEL_STATEFUL_INITIAL ? 0 : told;
+    case TOLD_7_BITS: return differing(was, is, 0x7F);
+    case TOLD_NOT_ENABLED: return written ? told : x->c;
+    case TOLD_TAGGED: return written && told == 0 ? x->c : told;
+    case TOLD_WHOLE_WORD: return told != 0 ? 15 : 0;
+    case TOLD_C3_TO_C2: return was >> 24 == 0xC3 && is >> 24 == 0xC2 ? told & 7 : told;
+    case TOLD_IN_7_7: return model_register(before, 7) == 1 && to.slot == 7 && to.word == 7 ? 0 : told;
+    default: return told;
+    }
+}
+
 /* ---- Scan-out ---- */
 
 static uint8_t *video_buffer(uint8_t *state, uint32_t number) { return state + PANEL_AT_VIDEO + PANEL_LINE_BYTES * number; }
@@ -302,6 +361,8 @@ static uint64_t perform(uint8_t *state, uint8_t *memory, size_t memory_len, stru
     turn(&x, state, &m);
     answer = model_call(state, MODEL_STATE, memory, memory_len, x.op, x.a, x.b, x.c, x.d, x.data);
     answer = spoil_video(state, before, memory, &x, answer);
+    if (x.op >= PANEL_STATELESS_INITIAL && x.op <= PANEL_STATEFUL_WRITE)
+        answer = (answer & ~(uint64_t)0xFFFFFFFF) | mistell(state, before, &x, answer);
     spoil(state, memory, memory_len, &x, &m);
     miscount(state, &x, &m);
     if ((planted() == TAG_ALL && x.op == PANEL_UNMASKED_WRITE && m.tag == 0xFFFFFFFF) ||
@@ -328,5 +389,8 @@ uint64_t panel_call(uint8_t *state, size_t state_len, uint8_t *memory, size_t me
     if ((planted() == REFUSED_OR_TAG && op == PANEL_OR_TAG && number == PANEL_OUT_OF_RANGE) ||
         (planted() == TEN_COUNTED && number == PANEL_BUFFER_IN_USE))
         put32(state + PANEL_AT_COUNTER, get32(state + PANEL_AT_COUNTER) + 1);
+    if (planted() == TOLD_REFUSED && op >= PANEL_STATELESS_INITIAL && op <= PANEL_STATEFUL_WRITE &&
+        number == PANEL_OUT_OF_RANGE)
+        return (uint64_t)number << 40 | PANEL_ALL_BYTES;
     return (uint64_t)number << 40;
 }

@@ -92,13 +92,12 @@ static uint8_t *word_of(const struct flat *flat, uint32_t slot, uint32_t word)
 static uint64_t flat_write(struct flat *flat, const struct call *call)
 {
     struct drawn drawn = model_draw(flat->state, call, get32(word_of(flat, call->a, call->b)));
-    uint8_t *to = word_of(flat, drawn.slot, drawn.word);
-    put32(to, (get32(to) & ~drawn.under) | (drawn.result & drawn.under));
+    uint32_t changed = model_merge(word_of(flat, drawn.slot, drawn.word), &drawn);
     if (drawn.enabled)
         flat->waiting[drawn.slot] |= call->c << 4 * drawn.word;
     if (drawn.enabled && call->op == 11 && model_picking(flat->state))
         model_set_hit(flat->state, true);
-    return (uint64_t)drawn.pass << 32 | (uint64_t)drawn.enabled << 33;
+    return (uint64_t)drawn.enabled << 33 | (uint64_t)drawn.pass << 32 | changed;
 }
 
 static void flat_transfer(struct flat *flat, const struct call *call, const uint8_t *memory)

@@ -20,7 +20,7 @@ static void same(const char *what, unsigned long long found, unsigned long long 
 
 static void sizes(void)
 {
-    SAME(PANEL_VERSION_MAJOR, 2); /* of a block of 512 bytes */
+    SAME(PANEL_VERSION_MAJOR, 3); /* of a block of 512 bytes, and data writes that tell which bytes changed */
     SAME(PANEL_VERSION_MINOR, 0);
     SAME(PANEL_STATE_BYTES, 512);
     SAME(PANEL_MEMORY_BYTES(1), 5120);
@@ -174,6 +174,8 @@ static void functions(void)
     SAME(panel_call(state, sizeof state, memory, sizeof memory, PANEL_WRITE_REGISTER, PANEL_COMPARE_CONTROL, 0, 0, 0,
                     PANEL_PICKING_ON | PANEL_SET_HIT),
          0);
+    SAME(panel_value(panel_call(state, sizeof state, memory, sizeof memory, PANEL_STATELESS_WRITE, 0, 0, 6, 0, 0x01010101)),
+         6); /* bytes 1 and 2 changed */
     SAME(panel_picking(state), 1);
     SAME(panel_hit(state), 1);
     SAME(panel_value(panel_scan_line(state, sizeof state, memory, sizeof memory, 3, 0, 15)), 3 * 1280 + 15 * 80);

@@ -1,5 +1,5 @@
-/* model.c: document 01 and request T-01 of document 02 in plain C, in document 01's order. It works in place on the bytes of
- * the state block. */
+/* model.c: document 01 and requests T-01 and T-02 of document 02 in plain C, in document 01's order. It works in place on the
+ * bytes of the state block. */
 #include "model.h"
 
 #include <string.h>
@@ -14,7 +14,10 @@ enum { PAGES_MAX = 257, SCREEN_WIDTH = 1280, SCREEN_HEIGHT = 1024, SLOT = 32 };
 /* ---- Answers ---- */
 
 static uint64_t refused(uint32_t number) { return (uint64_t)number << 40; }
-static uint64_t written(bool pass, bool enabled) { return (uint64_t)pass << 32 | (uint64_t)enabled << 33; }
+static uint64_t written(uint32_t changed, bool pass, bool enabled)
+{
+    return (uint64_t)enabled << 33 | (uint64_t)pass << 32 | changed;
+}
 
 /* ---- Memory ---- */
 
@@ -334,19 +337,28 @@ struct drawn model_draw(const uint8_t *state, const struct call *call, uint32_t 
     return drawn;
 }
 
+uint32_t model_merge(uint8_t *to, const struct drawn *drawn)
+{
+    uint32_t before = get32(to), after = (before & ~drawn->under) | (drawn->result & drawn->under), changed = 0;
+    put32(to, after);
+    for (int n = 0; n < 4; n++)
+        if ((before >> 8 * n & 0xFF) != (after >> 8 * n & 0xFF))
+            changed |= (uint32_t)1 << n;
+    return changed;
+}
+
 static uint64_t data_write(uint8_t *state, const struct call *call)
 {
     bool stateful = call->op == 10 || call->op == 11, initial = call->op == 8 || call->op == 10;
     struct drawn drawn = model_draw(state, call, model_word(state, call->a, call->b));
-    uint8_t *to = word_at(state, drawn.slot, drawn.word);
+    uint32_t changed = model_merge(word_at(state, drawn.slot, drawn.word), &drawn);
     uint32_t tag = initial ? 0 : model_tag(state, drawn.slot);
     if (drawn.enabled)
         tag |= call->c << 4 * drawn.word;
-    put32(to, (get32(to) & ~drawn.under) | (drawn.result & drawn.under));
     set_tag(state, drawn.slot, tag);
     if (stateful && drawn.enabled && model_picking(state))
         model_set_hit(state, true);
-    return written(drawn.pass, drawn.enabled);
+    return written(changed, drawn.pass, drawn.enabled);
 }
 
 /* ---- Registers ---- */

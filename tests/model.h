@@ -1,5 +1,5 @@
-/* model.h: document 01 and request T-01 of document 02 in plain C, to compare the library with. Written from the documents, not
- * from the library; it takes no constant from panel.h, so that a wrong one there shows. */
+/* model.h: document 01 and requests T-01 and T-02 of document 02 in plain C, to compare the library with. Written from the
+ * documents, not from the library; it takes no constant from panel.h, so that a wrong one there shows. */
 #ifndef MODEL_H
 #define MODEL_H
 
@@ -45,6 +45,9 @@ size_t model_byte_in_page(uint32_t block, uint32_t byte);
 size_t model_page_at(const uint8_t *state, uint32_t bank, uint32_t page);
 uint32_t model_number(const uint8_t *state, size_t state_len, size_t memory_len, const struct call *call);
 struct drawn model_draw(const uint8_t *state, const struct call *call, uint32_t old);
+
+/* The merge of one word, at its destination: in four bits, which of its bytes differ afterwards. */
+uint32_t model_merge(uint8_t *to, const struct drawn *drawn);
 
 uint32_t model_pages(const uint8_t *state);
 uint32_t model_open_page(const uint8_t *state, uint32_t bank);

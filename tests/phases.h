@@ -33,6 +33,9 @@ void try_scans(uint32_t pages);
 void try_put_out(uint32_t pages);
 void try_stored_scans(void);
 
+/* Which bytes a data write changes, as its value says: against data reads before it and after it. */
+void try_changed(void);
+
 /* Random calls, valid and invalid: library against model. */
 void try_random(uint32_t pages, uint64_t seed, unsigned long calls);
 

@@ -1,6 +1,6 @@
 /* pictures.c: demand 3 from outside. Random calls that keep the premises are drawn; every read, pass, written and hit of the
- * library and all that its video clocks put out are compared with the flat picture's, and memory with the whole picture each
- * time no bytes wait. pair.h compares the same calls with the model too. */
+ * library, which bytes its writes say that they changed, and all that its video clocks put out are compared with the flat
+ * picture's, and memory with the whole picture each time no bytes wait. pair.h compares the same calls with the model too. */
 #include "phases.h"
 
 #include <stdio.h>
@@ -21,6 +21,10 @@ enum {
     DECAL = MAGNITUDE + 8,
     HIT_SET,
     TO_ANOTHER_SLOT,
+    CHANGED_THERE,
+    CHANGED_ALL,
+    CHANGED_SOME,
+    CHANGED_NONE,
     FROM_CONSTANT,
     NOT_ENABLED,
     STATELESS,
@@ -47,6 +51,10 @@ static const char *feature_name(int feature)
     static const char *const names[] = {"decal write",
                                         "hit set",
                                         "written to another slot",
+                                        "of these with bytes changed there",
+                                        "every byte changed",
+                                        "bytes changed, not all",
+                                        "bytes tagged, and none changed",
                                         "new from the constant",
                                         "write not enabled",
                                         "stateless write",
@@ -88,10 +96,20 @@ bool drew_all(void)
     return all;
 }
 
+/* Which bytes a write has changed; away is a write to another slot. */
+static void note_changed(const struct call *call, uint32_t changed, bool away)
+{
+    used[CHANGED_THERE] += away && changed != 0;
+    used[CHANGED_ALL] += changed == PANEL_ALL_BYTES;
+    used[CHANGED_SOME] += changed != 0 && changed != PANEL_ALL_BYTES;
+    used[CHANGED_NONE] += changed == 0 && call->c != 0;
+}
+
 /* A stateful write's codes; a raster code counts for a byte that is enabled, in a write that is. */
 static void note_stateful(const struct flat *flat, const struct call *call, uint64_t answer)
 {
     uint32_t rop = model_register(flat->state, 5), compare = model_register(flat->state, 6);
+    bool away = model_register(flat->state, 7) == 1 && (call->data >> 27 & 7) != call->a;
     used[MATCH + (compare >> 8 & 3)]++;
     used[MAGNITUDE + (compare & 7)]++;
     if (!panel_written(answer)) {
@@ -99,7 +117,8 @@ static void note_stateful(const struct flat *flat, const struct call *call, uint
         return;
     }
     used[DECAL] += !panel_pass(answer);
-    used[TO_ANOTHER_SLOT] += model_register(flat->state, 7) == 1 && (call->data >> 27 & 7) != call->a;
+    used[TO_ANOTHER_SLOT] += away;
+    note_changed(call, panel_value(answer), away);
     for (int n = 0; n < 4; n++)
         if (call->c >> n & 1) {
             used[RASTER + (rop >> 8 * n & 15)]++;

@@ -219,6 +219,137 @@ static void operations(void)
     expect("17", call(17, 0, 0, 0, 0, 0), get16(memory));
 }
 
+/* ---- T-02: which bytes changed ---- */
+
+enum { PASSED = 1, WRITTEN = 2 }; /* in an answer's bits 33:32 */
+
+static uint64_t said(uint32_t passed_written, uint32_t changed) { return (uint64_t)passed_written << 32 | changed; }
+static uint64_t put(uint32_t op, uint32_t enables, uint32_t data) { return call(op, 2, 5, enables, PANEL_PASS_IN, data); }
+
+/* A fresh chip whose word (2, 5) is this one. */
+static void fresh_with(uint32_t old)
+{
+    fresh();
+    done(PANEL_STATELESS_WRITE, 2, 5, PANEL_ALL_BYTES, 0, old);
+}
+
+/* A word, and the same with these bits turned in each of these bytes, bit n for byte n. */
+static const uint32_t old_bytes = 0x807F01FF;
+static uint32_t other_in(uint32_t bytes, uint32_t bits)
+{
+    uint32_t data = old_bytes;
+    for (uint32_t n = 0; n < 4; n++)
+        if (bytes >> n & 1)
+            data ^= bits << 8 * n;
+    return data;
+}
+
+/* Whichever bytes differ, and by whichever bit of them: those are told, and of them only the enabled ones. */
+static void bytes_that_differ(void)
+{
+    for (uint32_t bytes = 0; bytes < 16; bytes++)
+        for (uint32_t bits = 1; bits < 256; bits++) {
+            fresh_with(old_bytes);
+            expect("all enabled", put(PANEL_STATEFUL_WRITE, 15, other_in(bytes, bits)), said(PASSED | WRITTEN, bytes));
+            fresh_with(old_bytes);
+            expect("two enabled", put(PANEL_STATEFUL_WRITE, 6, other_in(bytes, bits)), said(PASSED | WRITTEN, bytes & 6));
+        }
+}
+
+/* Bits that the plane mask keeps, and bits that the raster code leaves, are no difference. */
+static void bytes_under_the_mask(void)
+{
+    fresh_with(0x00000000);
+    set(PANEL_PLANE_MASK, 0x80000F00);
+    expect("under the mask", put(PANEL_STATEFUL_WRITE, 15, 0xFFFFFFFF), said(PASSED | WRITTEN, 10));
+    expect("the word", word(2, 5), 0x80000F00);
+    expect("outside of the mask", put(PANEL_STATEFUL_WRITE, 15, 0x80000FFF), said(PASSED | WRITTEN, 0));
+    set(PANEL_PLANE_MASK, 0xFFFFFFFF);
+    set(PANEL_ROP_CONTROL, PANEL_ROP_ALL(PANEL_OR));
+    expect("or", put(PANEL_STATEFUL_WRITE, 15, 0x80010101), said(PASSED | WRITTEN, 5));
+    expect("the word", word(2, 5), 0x80010F01);
+}
+
+/* By write address control: (2, 5) and data agree in other bytes than the destination (3, 1) and data do. */
+static void bytes_of_the_destination(void)
+{
+    const uint32_t to_3_1 = 0x19000000;
+    fresh_with(to_3_1 | 0x00AABB00);
+    done(PANEL_STATELESS_WRITE, 3, 1, PANEL_ALL_BYTES, 0, 0x00AA00CC);
+    set(PANEL_WRITE_ADDRESS_CONTROL, 1);
+    expect("normal", put(PANEL_STATEFUL_WRITE, 15, to_3_1 | 0x00AABBCC), said(PASSED | WRITTEN, 10));
+    expect("the destination", word(3, 1), to_3_1 | 0x00AABBCC);
+    expect("the source as it was", word(2, 5), to_3_1 | 0x00AABB00);
+    expect("initial", put(PANEL_STATEFUL_INITIAL, 15, to_3_1 | 0x00ABBB00), said(PASSED | WRITTEN, 5));
+    expect("stateless, at (2, 5)", put(PANEL_STATELESS_WRITE, 15, to_3_1 | 0x00AABBCC), said(PASSED | WRITTEN, 1));
+}
+
+/* Initial or normal, stateless or stateful; pass and written are what they were, and all other bits are 0. */
+static void value_of_each_write(void)
+{
+    for (uint32_t op = PANEL_STATELESS_INITIAL; op <= PANEL_STATEFUL_WRITE; op++)
+        for (uint32_t bytes = 0; bytes < 16; bytes++) {
+            fresh_with(old_bytes);
+            expect("one bit", put(op, 15, other_in(bytes, 0x80)), said(PASSED | WRITTEN, bytes));
+            expect("and back", put(op, 15, old_bytes), said(PASSED | WRITTEN, bytes));
+        }
+}
+
+/* Passing or not; written by decal, where it does not pass. */
+static void value_if_not_enabled(void)
+{
+    fresh_with(0);
+    for (uint32_t in = 0; in < 3; in++)
+        expect("pass-in low", call(PANEL_STATEFUL_WRITE, 2, 5, 15, in, 0xFFFFFFFF), said(PASSED, 0));
+    set(PANEL_COMPARE_CONTROL, PANEL_MATCH_NEVER);
+    expect("match fails", put(PANEL_STATEFUL_WRITE, 15, 0xFFFFFFFF), said(0, 0));
+    expect("match fails, initial", put(PANEL_STATEFUL_INITIAL, 15, 0xFFFFFFFF), said(0, 0));
+    set(PANEL_COMPARE_CONTROL, PANEL_MATCH_NEVER | PANEL_DECAL);
+    expect("decal", put(PANEL_STATEFUL_WRITE, 15, 0x00FF00FF), said(WRITTEN, 5));
+}
+
+/* An operand outside its range: 4, value 0, and the word stays. */
+static void value_if_refused(void)
+{
+    static const uint32_t outside[][4] = {{8, 5, 15, 3}, {2, 8, 15, 3}, {2, 5, 16, 3}, {2, 5, 15, 4}};
+    fresh_with(0);
+    keep();
+    for (uint32_t op = PANEL_STATELESS_INITIAL; op <= PANEL_STATEFUL_WRITE; op++)
+        for (size_t i = 0; i < sizeof outside / sizeof *outside; i++)
+            expect("refused", call(op, outside[i][0], outside[i][1], outside[i][2], outside[i][3], 0xFFFFFFFF),
+                   UINT64_C(4) << 40);
+    same_but_counter(0);
+}
+
+/* The same word again, the raster code that keeps OLD, a plane mask of 0: tagged each time. No byte enabled: not even that. */
+static void none_changed(void)
+{
+    for (uint32_t op = PANEL_STATELESS_INITIAL; op <= PANEL_STATEFUL_WRITE; op++) {
+        fresh_with(old_bytes);
+        done(PANEL_REPLACE_TAG, 2, 0, 0, 0, 0);
+        expect("the same word", put(op, 11, old_bytes), said(PASSED | WRITTEN, 0));
+        expect("the tag", tag(2), 0x00B00000);
+        expect("no byte enabled", put(op, 0, ~old_bytes), said(PASSED | WRITTEN, 0));
+    }
+    set(PANEL_ROP_CONTROL, PANEL_ROP_ALL(PANEL_KEEP));
+    expect("OLD kept", put(PANEL_STATEFUL_INITIAL, 15, ~old_bytes), said(PASSED | WRITTEN, 0));
+    expect("the tag", tag(2), 0x00F00000);
+    set(PANEL_ROP_CONTROL, PANEL_ROP_CONTROL_FRESH);
+    set(PANEL_PLANE_MASK, 0);
+    expect("masked out", put(PANEL_STATEFUL_INITIAL, 7, ~old_bytes), said(PASSED | WRITTEN, 0));
+    expect("the tag", tag(2), 0x00700000);
+}
+
+/* Over zero memory, as the small program has it: "0 15 1 1". */
+static void third_line(void)
+{
+    fresh();
+    memset(memory, 0, MEMORY);
+    done(PANEL_ACCESS_PAGE, 0, 0, 0, 0, 0);
+    done(PANEL_READ_BLOCK, 0, 0, 0, 0, 0);
+    expect("the third call", call(11, 0, 0, 15, 3, 16909060), said(PASSED | WRITTEN, 15));
+}
+
 static const struct sentence sentences[] = {{"02-T01-01", two_buffers},
                                             {"02-T01-02", transfer_of_a_line},
                                             {"02-T01-03", bank_to_buffer},
@@ -232,6 +363,14 @@ static const struct sentence sentences[] = {{"02-T01-01", two_buffers},
                                             {"02-T01-12", stored_scan},
                                             {"02-T01-13", in_use},
                                             {"02-T01-14", in_use},
-                                            {"02-T01-15", operations}};
+                                            {"02-T01-15", operations},
+                                            {"02-T02-01", bytes_that_differ},
+                                            {"02-T02-01", bytes_under_the_mask},
+                                            {"02-T02-01", bytes_of_the_destination},
+                                            {"02-T02-02", value_of_each_write},
+                                            {"02-T02-02", value_if_not_enabled},
+                                            {"02-T02-02", value_if_refused},
+                                            {"02-T02-03", none_changed},
+                                            {"02-T02-04", third_line}};
 
 void try_requests(void) { TRY_EACH(sentences); }

@@ -212,7 +212,7 @@ static void stateless(void)
         set(PANEL_COMPARE_CONTROL, 0x104 | 0x0C000000); /* never, never; picking on */
         set(PANEL_WRITE_ADDRESS_CONTROL, 1);
         answer = call(PANEL_STATELESS_WRITE, 5, 6, 15, in, 0x3F345678);
-        expect("done, pass and written", answer, UINT64_C(3) << 32);
+        expect("done, all bytes changed, pass and written", answer, UINT64_C(3) << 32 | 15);
         expect("data at (slot, word)", word(5, 6), 0x3F345678);
         expect("the tag", tag(5), 0x0F000000);
         expect("hit", (uint64_t)panel_hit(state), 0);
@@ -230,7 +230,7 @@ static void values(void)
     static const uint64_t answers[] = {0,
                                        0,
                                        0,
-                                       UINT64_C(3) << 32,
+                                       UINT64_C(3) << 32 | 15,
                                        UINT64_C(3) << 32,
                                        UINT64_C(3) << 32,
                                        UINT64_C(1) << 32,

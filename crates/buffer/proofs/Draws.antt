@@ -107,19 +107,13 @@ module _ {s : List ℕ} {chip : Chip} (h : Stores s chip) (w : Write) (slot at :
       kept false l = l
 
 -- past the test of a data write's operands they are in range
-pub write-in-range : (P : ℕ) (w : Write) {fits : Bool} → fits ≡ (inRange 8 P (dataWrite w) && allZero []) → not fits ≡ false
+pub write-in-range : (P : ℕ) (w : Write) {fits : Bool} → fits ≡ (inRange 8 P (dataWrite w) && allZero []) → fits ≡ true
     → (w .slot < 8) × (w .word < 8) × (w .enables < 16) × (w .passin < 4)
-write-in-range P w told left = write-range 8 P w (and-left (inRange 8 P (dataWrite w)) (allZero []) (test-holds told left))
+write-in-range P w told taken = write-range 8 P w (and-left (inRange 8 P (dataWrite w)) (allZero []) (sym told ∙ taken))
 
 -- what a data write of either kind does, as `does` says it (Owns)
 abbrev writes : List ℕ → Write → Effect
-writes s w = effect slots (decodeControl s) (dataWrite w) (reading (slotByte (pixelsIn s)) (putOut (decodeControl s .scan) (videoByte (videoIn s))) (dataWrite w))
-
--- what it gives back: pass and written of the outcome, whatever stands at its destination
-write-gives : (s : List ℕ) (w : Write) (dest : ℕ) → (let o = outcomeOf (decodeControl s .registers) w (wordIn (slotByte (pixelsIn s) (w .slot)) (w .word)) dest in
-    doneWith 0 (digit (o .pass)) (digit (o .written)) ≡ effectGiven (writes s w))
-unfolding effect reading outcomeOf
-write-gives s w dest = refl
+writes s w = effect slots (decodeControl s) (dataWrite w) (reading slots (decodeControl s .registers) (slotByte (pixelsIn s)) (putOut (decodeControl s .scan) (videoByte (videoIn s))) (dataWrite w))
 
 -- what it leaves of a well formed block
 module _ (s : List ℕ) (bytes : Bytes s) (well : wellFormedBlock s ≡ true) (w : Write) where
@@ -135,24 +129,31 @@ module _ (s : List ℕ) (bytes : Bytes s) (well : wellFormedBlock s ≡ true) (w
   abbrev at : ℕ
   at = intoWord registers w
 
+  abbrev outcome : Outcome
+  outcome = outcomeOf registers w old (wordIn (slotByte (pixelsIn s) slot) at)
+
+  -- what it gives back: which bytes changed, pass and written, of the outcome
+  write-gives : doneWith (outcome .changed) (digit (outcome .pass)) (digit (outcome .written)) ≡ effectGiven (writes s w)
+  unfolding effect reading outcomeOf slots
+  write-gives = refl
+
   write-leaves : w .slot < 8 → w .word < 8 → w .enables < 16 → (memory : List ℕ)
-      → settled w slot at (outcomeOf registers w old (wordIn (slotByte (pixelsIn s) slot) at)) s ≡ encode (chipAfter (decode s) memory (writes s w))
+      → settled w slot at outcome s ≡ encode (chipAfter (decode s) memory (writes s w))
   unfolding effect pixelsAfter videoAfter reading outcomeOf hits tagWith slots
   write-leaves hs hw he memory =
-      let o = outcomeOf registers w old (wordIn (slotByte (pixelsIn s) slot) at) in
-      settled-is (stores-of s bytes well) w slot at o (into-slot-lt 8 registers w hs) (into-word-lt registers w hw) (taken-lt registers w old he) (tag-lt s bytes slot)
+      settled-is (stores-of s bytes well) w slot at outcome (into-slot-lt 8 registers w hs) (into-word-lt registers w hw) (taken-lt registers w old he) (tag-lt s bytes slot)
       ∙ ap (λ (l : List ℕ). encode (record { control = ticked (writes s w .control); pixels = l; video = videoIn s })) (painted-word registers w old slot (pixelsIn s) (unfold pixelsIn in part-bytes pixelsAt pixelBytes s bytes))
 
   -- past the test of its operands the call is done, and `settle` ends it with the outcome at its destination
-  pub write-done : (x : Call) → row x ≡ (dataWrite w, []) → {fits : Bool} → fits ≡ (inRange slots (decodeControl s .pages) (dataWrite w) && allZero []) → not fits ≡ false
+  pub write-done : (x : Call) → row x ≡ (dataWrite w, []) → {fits : Bool} → fits ≡ (inRange slots (decodeControl s .pages) (dataWrite w) && allZero []) → fits ≡ true
       → {read : List ℕ} → read ≡ registers → {to word : ℕ} {o : Outcome} → to ≡ intoSlot 8 read w → word ≡ intoWord read w → o ≡ outcomeOf read w old (wordIn (slotByte (pixelsIn s) to) word)
-      → {given : GivenBack} {after : List ℕ} → (given ≡ doneWith 0 (digit (o .pass)) (digit (o .written))) × (after ≡ settled w to word o s)
+      → {given : GivenBack} {after : List ℕ} → (given ≡ doneWith (o .changed) (digit (o .pass)) (digit (o .written))) × (after ≡ settled w to word o s)
       → (given ≡ ownGiven s x) × ((memory : List ℕ) → after ≡ ownBlock s memory x)
   unfolding slots asks first
-  write-done x r told left same {to} {word} there here drew ends =
-      let none = by-asks (decodeControl s) (dataWrite w) [] (test-holds told left) refl in
-      let range = write-in-range (decodeControl s .pages) w told left in (
-        ends .0 ∙ ap (λ (o : Outcome). doneWith 0 (digit (o .pass)) (digit (o .written))) (drew ∙ ap (λ (l : List ℕ). outcomeOf l w old (wordIn (slotByte (pixelsIn s) to) word)) same) ∙ write-gives s w (wordIn (slotByte (pixelsIn s) to) word) ∙ done-given s x (dataWrite w) [] r none,
+  write-done x r told taken same {to} {word} there here drew ends =
+      let none = by-asks (decodeControl s) (dataWrite w) [] (sym told ∙ taken) refl in
+      let range = write-in-range (decodeControl s .pages) w told taken in (
+        ends .0 ∙ rw (drew, there, here, same) (write-gives ∙ done-given s x (dataWrite w) [] r none),
         λ memory. ends .1 ∙ rw (drew, there, here, same) (write-leaves (range .0) (range .1) (range .2) memory ∙ done-block s x (dataWrite w) [] r none memory),
       )
 

@@ -30,7 +30,7 @@ fn mark_hit(s: &mut [u8], hits: bool)
 // A write's outcome, put at its destination: the word, its tag bits, hit, and one call more.
 fn settle(s: &mut [u8], w: Write, slot: u32, word: u32, o: Outcome) -> Answer
     requires { ⌜ IsBlock (now s) × (slot < 8) × (word < 8) ⌝ }
-    ensures { λ r. ⌜ (givenBack r ≡ doneWith 0 (digit (o .pass)) (digit (o .written))) × (now (s .exit) ≡ settled w slot word o (now (s .entry))) ⌝ }
+    ensures { λ r. ⌜ (givenBack r ≡ doneWith (o .changed) (digit (o .pass)) (digit (o .written))) × (now (s .exit) ≡ settled w slot word o (now (s .entry))) ⌝ }
 {
     let before = bits::pick(w.initial, 0, fields::tag(s, slot));
     fields::put_slot_word(s, slot, word, o.word);
@@ -38,7 +38,7 @@ fn settle(s: &mut [u8], w: Write, slot: u32, word: u32, o: Outcome) -> Answer
     mark_hit(s, !w.stateless & o.written);
     fields::tick(s);
     Answer::Done {
-        value: 0,
+        value: o.changed,
         pass: o.pass,
         written: o.written,
     }
@@ -58,23 +58,24 @@ pub fn stateful_write(s: &mut [u8], x: Call) -> Answer
     requires { ⌜ IsBlock (now s) × (wellFormedBlock (now s) ≡ true) × (10 ≤ x .op) × (x .op ≤ 11) ⌝ }
     ensures { λ r. ⌜ (givenBack r ≡ ownGiven (now (s .entry)) x) × ((memory : List ℕ) → now (s .exit) ≡ ownBlock (now (s .entry)) memory x) ⌝ }
 {
-    if !operands::write_fits(x) {
-        return Answer::Refused(Refusal::OperandOutside);
+    if operands::write_fits(x) {
+        let w = Write {
+            stateless: false,
+            initial: x.op == 10,
+            slot: x.a,
+            word: x.b,
+            enables: x.c,
+            passin: x.d,
+            given: x.given,
+        };
+        let registers = fields::registers(s);
+        let slot = pixel::into_slot(registers, w, 8);
+        let word = pixel::into_word(registers, w);
+        let outcome = drawn(s, registers, w, slot, word);
+        settle(s, w, slot, word, outcome)
+    } else {
+        Answer::Refused(Refusal::OperandOutside)
     }
-    let w = Write {
-        stateless: false,
-        initial: x.op == 10,
-        slot: x.a,
-        word: x.b,
-        enables: x.c,
-        passin: x.d,
-        given: x.given,
-    };
-    let registers = fields::registers(s);
-    let slot = pixel::into_slot(registers, w, 8);
-    let word = pixel::into_word(registers, w);
-    let outcome = drawn(s, registers, w, slot, word);
-    settle(s, w, slot, word, outcome)
 }
 
 // Its destination is (slot, word) whatever the registers hold.
@@ -82,19 +83,20 @@ pub fn stateless_write(s: &mut [u8], x: Call) -> Answer
     requires { ⌜ IsBlock (now s) × (wellFormedBlock (now s) ≡ true) × (8 ≤ x .op) × (x .op ≤ 9) ⌝ }
     ensures { λ r. ⌜ (givenBack r ≡ ownGiven (now (s .entry)) x) × ((memory : List ℕ) → now (s .exit) ≡ ownBlock (now (s .entry)) memory x) ⌝ }
 {
-    if !operands::write_fits(x) {
-        return Answer::Refused(Refusal::OperandOutside);
+    if operands::write_fits(x) {
+        let w = Write {
+            stateless: true,
+            initial: x.op == 8,
+            slot: x.a,
+            word: x.b,
+            enables: x.c,
+            passin: x.d,
+            given: x.given,
+        };
+        let dest = fields::slot_word(s, x.a, x.b);
+        let outcome = pixel::stateless(w, dest);
+        settle(s, w, x.a, x.b, outcome)
+    } else {
+        Answer::Refused(Refusal::OperandOutside)
     }
-    let w = Write {
-        stateless: true,
-        initial: x.op == 8,
-        slot: x.a,
-        word: x.b,
-        enables: x.c,
-        passin: x.d,
-        given: x.given,
-    };
-    let dest = fields::slot_word(s, x.a, x.b);
-    let outcome = pixel::stateless(w, dest);
-    settle(s, w, x.a, x.b, outcome)
 }

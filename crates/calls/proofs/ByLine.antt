@@ -50,7 +50,7 @@ wrong-length s memory x bytes well e = refusal s memory x bytes well {k = 1} (un
 
 -- what an operation moves, if it is done
 abbrev does : List ℕ → Operation → Move
-does s o = effect slots (decodeControl s) o (reading (slotByte (pixelsIn s)) (putOut (decodeControl s .scan) (videoByte (videoIn s))) o) .move
+does s o = effect slots (decodeControl s) o (reading slots (decodeControl s .registers) (slotByte (pixelsIn s)) (putOut (decodeControl s .scan) (videoByte (videoIn s))) o) .move
 
 -- an operation that does nothing to memory leaves it, done or refused
 untouched : (s memory : List ℕ) (x : Call) (o : Operation) (unused : List ℕ) → row x ≡ (o, unused)

@@ -2,12 +2,13 @@
 use mathlib.Core.Path.{_≡_, refl, sym, ap, _∙_}
 use mathlib.Core.Bool.{true}
 use mathlib.Core.List.{List, [], _∷_}
-use Prim.Native.Nat.{ℕ, zero, suc, _+_, _-_, _*_, _^_, _<_, _≤_}
+use Prim.Native.Nat.{ℕ, zero, suc, _+_, _-_, _*_, _≤_}
 use native.Mathlib.Omega.{arith}
 use lib.ListN.{length, getD, take, drop}
 use lib.Seq.{drop-cons}
 use borrow.Author.Tests.{eq-eqb}
 use Rattle.bits.specs.Bits.{byte}
+use Rattle.lists.proofs.Rows.{byte-half-0, byte-half-1}
 use Rattle.lists.specs.Words.{Bytes}
 use Rattle.layout.specs.Memory.{size}
 use Rattle.numbers.specs.Numbers.{first}
@@ -19,7 +20,7 @@ use Rattle.chip.specs.Video.{videoBytes, videoByte, putOut, clocked}
 use Rattle.chip.specs.State.{slots, wellFormed}
 use Rattle.chip.specs.Operations.{isOperation, callTable, row, operation, ask, videoClock, inRange}
 use Rattle.chip.specs.Changes.{withScan, ticked}
-use Rattle.chip.specs.Effects.{reading, effect, pixelsAfter, videoAfter, memoryAfter}
+use Rattle.chip.specs.Effects.{nothingRead, reading, effect, pixelsAfter, videoAfter, memoryAfter}
 use Rattle.chip.specs.Answers.{doneWith}
 use Rattle.chip.specs.Refusals.{operandsFit, asks, callTests, number}
 use Rattle.chip.specs.Calls.{readIn, givenWith, chipWith, memoryWith, callGiven, chipOf, memoryOf, givenEach}
@@ -39,26 +40,27 @@ outOf chip n = byte (putOut (chip .control .scan) (videoByte (chip .video))) n
 -- ---- one clock on a well formed chip is done
 
 module _ (chip : Chip) (memory : List ℕ) (well : wellFormed (chip .control) ≡ true) (sized : length memory ≡ size (chip .control .pages)) where
-  done : number slots (chip .control) (length memory) (ask 17 0 0 0 0 0) ≡ 0
+  done : (n : ℕ) → number n (chip .control) (length memory) (ask 17 0 0 0 0 0) ≡ 0
   unfolding number first callTests operandsFit isOperation row callTable operation asks inRange
-  done = rw (well, eq-eqb _ _ sized)
+  done n = rw (well, eq-eqb _ _ sized)
 
-  gives : callGiven chip memory (ask 17 0 0 0 0 0) ≡ doneWith (putOut (chip .control .scan) (videoByte (chip .video))) 0 0
-  unfolding callGiven givenWith readIn reading effect operation row callTable
-  gives = rw done
+  -- and puts out two bytes of the selected buffer
+  pub clock-gives : (n : ℕ) → givenWith n chip memory (ask 17 0 0 0 0 0) ≡ doneWith (putOut (chip .control .scan) (videoByte (chip .video))) 0 0
+  unfolding givenWith readIn reading effect operation row callTable
+  clock-gives n = rw (done n)
 
   leaves : chipOf chip memory (ask 17 0 0 0 0 0) ≡ after chip
   unfolding chipOf chipWith readIn effect operation row callTable pixelsAfter videoAfter
-  leaves = rw done
+  leaves = rw (done slots)
 
   keeps : memoryOf chip memory (ask 17 0 0 0 0 0) ≡ memory
   unfolding memoryOf memoryWith readIn effect operation row callTable memoryAfter
-  keeps = rw done
+  keeps = rw (done slots)
 
   -- and then come the others
   then-out : (xs : List Call) → bytesOut (givenEach chip memory (ask 17 0 0 0 0 0 ∷ xs)) ≡ outOf chip 0 ∷ outOf chip 1 ∷ bytesOut (givenEach (after chip) memory xs)
-  unfolding bytesOut givenEach
-  then-out xs = rw (gives, leaves, keeps)
+  unfolding bytesOut givenEach callGiven
+  then-out xs = rw (clock-gives slots, leaves, keeps)
 
   then-chip : (xs : List Call) → chipEach chip memory (ask 17 0 0 0 0 0 ∷ xs) ≡ chipEach (after chip) memory xs
   unfolding chipEach
@@ -66,22 +68,13 @@ module _ (chip : Chip) (memory : List ℕ) (well : wellFormed (chip .control) �
 
   stays : wellFormed (after chip .control) ≡ true
   unfolding effect inRange asks first
-  stays = stays-well-formed slots (chip .control) videoClock (record { old = 0; out = 0 }) well refl refl
+  stays = stays-well-formed slots (chip .control) videoClock nothingRead well refl refl
 
 -- ---- so many clocks
 
 -- where the next pair of bytes stands
 abbrev next : Scan → ℕ
 next v = 80 * v .select + 2 * v .counter
-
--- the two bytes of a value
-low : (a b : ℕ) → a < 2 ^ 8 → byte (a + b * 2 ^ 8) 0 ≡ a
-unfolding byte
-low a b h = omega arith
-
-high : (a b : ℕ) → a < 2 ^ 8 → b < 2 ^ 8 → byte (a + b * 2 ^ 8) 1 ≡ b
-unfolding byte
-high a b h l = omega arith
 
 -- what is put out are the next two bytes
 pair : (v : Scan) (video : List ℕ) → Bytes video → length video ≡ videoBytes → v .counter ≤ 39 → v .select ≤ 1
@@ -92,7 +85,7 @@ pair v video bytes long hc hs =
     let first : v .select * 80 + 2 * v .counter ≡ p = omega arith in
     let second : v .select * 80 + (2 * v .counter + 1) ≡ suc p = omega arith in
     let third : p + 2 ≡ suc (suc p) = omega arith in
-    rw (first, second, third, low (getD video p 0) (getD video (suc p) 0) (bytes p), high (getD video p 0) (getD video (suc p) 0) (bytes p) (bytes (suc p)))
+    rw (first, second, third, byte-half-0 (getD video p 0) (getD video (suc p) 0) (bytes p), byte-half-1 (getD video p 0) (getD video (suc p) 0) (bytes p) (bytes (suc p)))
     (drop-cons video p 0 (omega arith) ∙ ap (λ (l : List ℕ). getD video p 0 ∷ l) (drop-cons video (suc p) 0 (omega arith)))
 
 two : (m : ℕ) (chip : Chip) → Bytes (chip .video) → length (chip .video) ≡ videoBytes → (chip .control .scan .counter ≤ 39) × (chip .control .scan .select ≤ 1)

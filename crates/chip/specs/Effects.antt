@@ -9,7 +9,7 @@ use Rattle.layout.specs.Memory.{place, onLine, address}
 use Rattle.bank.specs.Work.{inSlot, loaded, backMask, writtenBack, tagged, copied, transferred}
 use Rattle.pixel.specs.declared.Write.{Write}
 use Rattle.pixel.specs.Registers.{register, planeMask}
-use Rattle.pixel.specs.Writes.{intoSlot, passOut, enabled, hits}
+use Rattle.pixel.specs.Writes.{intoSlot, intoWord, passOut, enabled, hits, changed}
 use Rattle.chip.specs.declared.Control.{Control}
 use Rattle.chip.specs.Video.{bufferOf, clocked}
 use Rattle.chip.specs.State.{closed, openPage}
@@ -22,32 +22,36 @@ use Rattle.chip.specs.Changes.{withPage, withTag, withHit, withRegister,
 pub record Reading : Type 0 where
   -- 01, Data write: OLD is the word at (slot, word)
   pub old : ℕ
+  -- 02, T-02: the destination's word
+  pub dest : ℕ
   -- 02, T-01: what a video clock puts out
   pub out : ℕ
 
 -- 01, Calls: nothing is read
 abbrev pub nothingRead : Reading
-nothingRead = record { old = 0; out = 0 }
+nothingRead = record { old = 0; dest = 0; out = 0 }
 
--- 01, Calls: a word is read
-abbrev pub wordRead : ℕ → Reading
-wordRead old = record { old = old; out = 0 }
-
--- 01, Calls: data read and data write read a word, where byte i of a slot is `byteOf slot i`; 02, T-01: a video clock reads what it puts out
-unfoldable pub reading : (ℕ → ℕ → ℕ) → ℕ → Operation → Reading
-reading byteOf out (access bank page) = nothingRead
-reading byteOf out (precharge bank) = nothingRead
-reading byteOf out (duplicate bank page) = nothingRead
-reading byteOf out (readBlock bank block slot) = nothingRead
-reading byteOf out (writeBlock masked bank block slot) = nothingRead
-reading byteOf out (dataRead slot word) = wordRead (wordIn (byteOf slot) word)
-reading byteOf out (dataWrite w) = wordRead (wordIn (byteOf (w .slot)) (w .word))
-reading byteOf out (writeTag replace slot tag) = nothingRead
-reading byteOf out (writeRegister number value) = nothingRead
-reading byteOf out (readRegister number) = nothingRead
-reading byteOf out (videoTransfer bank line) = nothingRead
-reading byteOf out videoClock = record { old = 0; out = out }
-reading byteOf out unknown = nothingRead
+-- 01, Calls: data read and data write read a word; 02, T-02: a data write its destination's too; 02, T-01: a video clock reads what it puts out.
+-- (n is how many slots there are, and byte i of a slot is `byteOf slot i`)
+module _ (n : ℕ) (registers : List ℕ) (byteOf : ℕ → ℕ → ℕ) (out : ℕ) where
+  unfoldable pub reading : Operation → Reading
+  reading (access bank page) = nothingRead
+  reading (precharge bank) = nothingRead
+  reading (duplicate bank page) = nothingRead
+  reading (readBlock bank block slot) = nothingRead
+  reading (writeBlock masked bank block slot) = nothingRead
+  reading (dataRead slot word) = record { old = wordIn (byteOf slot) word; dest = 0; out = 0 }
+  reading (dataWrite w) = record {
+    old = wordIn (byteOf (w .slot)) (w .word);
+    dest = wordIn (byteOf (intoSlot n registers w)) (intoWord registers w);
+    out = 0;
+  }
+  reading (writeTag replace slot tag) = nothingRead
+  reading (writeRegister number value) = nothingRead
+  reading (readRegister number) = nothingRead
+  reading (videoTransfer bank line) = nothingRead
+  reading videoClock = record { old = 0; dest = 0; out = out }
+  reading unknown = nothingRead
 
 -- 01, Chip state: byte i of a slot, in the pixel buffer
 unfoldable pub slotByte : List ℕ → ℕ → ℕ → ℕ
@@ -82,7 +86,7 @@ pub record Effect : Type 0 where
 abbrev pub giving : ℕ → Control → Move → Effect
 giving value c move = record { value = value; pass = false; written = false; control = c; move = move }
 
--- 01, Numbers: a value is 0 except for ops 5, 6, 7, 15; 02, T-01: and 17
+-- 01, Numbers: a value is 0 except for ops 5, 6, 7, 15; 02, T-01: and 17; 02, T-02: and 8 to 11
 abbrev pub leaving : Control → Move → Effect
 leaving c move = giving 0 c move
 
@@ -92,14 +96,14 @@ afterWrite c w slot old =
     let tag = cond (w .initial) 0 (tagOf c slot) in
     withHit (withTag c slot (tagWith (c .registers) w old tag)) (c .hit || (c .picking && hits (c .registers) w old))
 
--- 01, Numbers: written is 1 exactly when the write is enabled, byte enables or not
-abbrev pub writing : Control → Write → ℕ → ℕ → Effect
-writing c w slot old = record {
-  value = 0;
-  pass = passOut (c .registers) w old;
-  written = enabled (c .registers) w old;
-  control = afterWrite c w slot old;
-  move = paint w slot old;
+-- 01, Numbers: written is 1 exactly when the write is enabled, byte enables or not; 02, T-02: its value is which bytes of the destination differ
+abbrev pub writing : Control → Write → ℕ → Reading → Effect
+writing c w slot r = record {
+  value = changed (c .registers) w (r .old) (r .dest);
+  pass = passOut (c .registers) w (r .old);
+  written = enabled (c .registers) w (r .old);
+  control = afterWrite c w slot (r .old);
+  move = paint w slot (r .old);
 }
 
 -- 01, Calls: what each call does, with n slots, where it reads r
@@ -118,7 +122,7 @@ effect n c (writeBlock masked bank block slot) r =
 -- data read: the value is the word
 effect n c (dataRead slot word) r = giving (r .old) c still
 -- data write: into the destination slot
-effect n c (dataWrite w) r = writing c w (intoSlot n (c .registers) w) (r .old)
+effect n c (dataWrite w) r = writing c w (intoSlot n (c .registers) w) r
 -- replace, OR tag
 effect n c (writeTag replace slot tag) r = leaving (withTag c slot (cond replace tag (bitOr (tagOf c slot) tag))) still
 -- write register

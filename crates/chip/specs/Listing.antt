@@ -32,7 +32,8 @@ unfoldable pub Listing : Type 0
 Listing = printed (givenEach (freshOf 2) (replicate (size 2) 0) listing)
     ≡ (0 ∷ 0 ∷ 0 ∷ 0 ∷ [])
     ∷ (0 ∷ 0 ∷ 0 ∷ 0 ∷ [])
-    ∷ (0 ∷ 0 ∷ 1 ∷ 1 ∷ [])
+    -- 02, T-02: the third call's line
+    ∷ (0 ∷ 15 ∷ 1 ∷ 1 ∷ [])
     ∷ (0 ∷ 4 ∷ 0 ∷ 0 ∷ [])
     ∷ (0 ∷ 16909060 ∷ 0 ∷ 0 ∷ [])
     ∷ (0 ∷ 0 ∷ 0 ∷ 0 ∷ [])

@@ -97,14 +97,11 @@ fn load(fresh: Chip, memory: &mut [u8]) -> Chip {
     step(b"read block", opened, memory, call(4, 0, 0, 0, 0, 0))
 }
 
-// Writes a word into slot 0, all four of its bytes.
+// Writes a word into slot 0, all four of its bytes; made once more, the write changes none.
 fn draw(loaded: Chip, memory: &mut [u8]) -> Chip {
-    step(
-        b"data write",
-        loaded,
-        memory,
-        call(11, 0, 0, 15, 3, 0x0102_0304),
-    )
+    let write = call(11, 0, 0, 15, 3, 0x0102_0304);
+    let drawn = step(b"data write", loaded, memory, write);
+    step(b"data write, again", drawn, memory, write)
 }
 
 // A word that waits in the pixel buffer is not on the scan line: it is there after the write-back.

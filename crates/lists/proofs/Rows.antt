@@ -124,11 +124,11 @@ pub half-read : (pre : List ℕ) (x : ℕ) (rest : List ℕ) → x < 2 ^ 16 → 
 unfolding halfAt bytesFrom
 half-read pre x rest h = rw (getD-append-seam, getD-append-add) (unfold byte in omega arith)
 
-byte-half-0 : (a b : ℕ) → a < 2 ^ 8 → byte (a + b * 2 ^ 8) 0 ≡ a
+pub byte-half-0 : (a b : ℕ) → a < 2 ^ 8 → byte (a + b * 2 ^ 8) 0 ≡ a
 unfolding byte
 byte-half-0 a b h = omega arith
 
-byte-half-1 : (a b : ℕ) → a < 2 ^ 8 → b < 2 ^ 8 → byte (a + b * 2 ^ 8) 1 ≡ b
+pub byte-half-1 : (a b : ℕ) → a < 2 ^ 8 → b < 2 ^ 8 → byte (a + b * 2 ^ 8) 1 ≡ b
 unfolding byte
 byte-half-1 a b h l = omega arith
 

@@ -71,7 +71,7 @@ Unmoved s x k = (numbered k ≡ ownGiven s x) × ((memory : List ℕ) → s ≡ 
 module _ (s : List ℕ) (x : Call) (o : Operation) (unused : List ℕ) (r : row x ≡ (o, unused)) where
   -- what the operation does, if it is done
   abbrev pub does : Effect
-  does = effect slots (decodeControl s) o (reading (slotByte (pixelsIn s)) (putOut (decodeControl s .scan) (videoByte (videoIn s))) o)
+  does = effect slots (decodeControl s) o (reading slots (decodeControl s .registers) (slotByte (pixelsIn s)) (putOut (decodeControl s .scan) (videoByte (videoIn s))) o)
 
   operation-is : operation x ≡ o
   unfolding operation

@@ -18,9 +18,7 @@ ghost use Rattle.panel.specs.Packs.{freshPacked, lineOffset, pointValue,
 fn pack_done(value: u32, pass: bool, written: bool) -> u64
     ensures { λ r. ⌜ r ≡ packed (givenBack (Answer.Done value pass written)) ⌝ }
 {
-    (value as u64)
-        + (bits::digit_of(pass) as u64) * 0x1_0000_0000
-        + (bits::digit_of(written) as u64) * 0x2_0000_0000
+    (value as u64) + ((bits::digit_of(pass) + 2 * bits::digit_of(written)) as u64) * 0x1_0000_0000
 }
 
 // A value, and a number in bits 47:40.

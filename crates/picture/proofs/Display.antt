@@ -6,24 +6,24 @@ use mathlib.Core.List.{List, [], _∷_}
 use Prim.Native.Nat.{ℕ, zero, suc, _+_, _*_, _^_, _≤_, _<_}
 use native.Mathlib.Omega.{arith}
 use lib.ListN.{getD, length}
-use Rattle.numbers.specs.Numbers.{first}
 use Rattle.layout.specs.Memory.{place, onLine}
 use Rattle.chip.specs.declared.Scan.{Scan}
 use Rattle.chip.specs.declared.Control.{Control}
 use Rattle.chip.specs.declared.Call.{Call}
 use Rattle.chip.specs.Video.{videoBytes, bufferOf, videoByte, putOut}
 use Rattle.chip.specs.State.{openPage}
-use Rattle.chip.specs.Operations.{ask, Operation, access, precharge, duplicate, readBlock, writeBlock, dataRead, dataWrite, writeTag, writeRegister, readRegister, videoTransfer, videoClock, unknown, isOperation, callTable, row, operation, inRange}
-use Rattle.chip.specs.Effects.{Reading, reading, effect, videoAfter}
+use Rattle.chip.specs.Operations.{ask, Operation, access, precharge, duplicate, readBlock, writeBlock, dataRead, dataWrite, writeTag, writeRegister, readRegister, videoTransfer, videoClock, unknown, callTable, row, operation}
+use Rattle.chip.specs.Effects.{Reading, effect, videoAfter}
 use Rattle.chip.specs.Answers.{doneWith}
-use Rattle.chip.specs.Refusals.{operandsFit, asks, callTests, number}
-use Rattle.chip.specs.Calls.{readIn, givenWith, chipWith, memoryWith}
+use Rattle.chip.specs.Refusals.{number}
+use Rattle.chip.specs.Calls.{readIn, chipWith, memoryWith}
+use Rattle.chip.proofs.FortyClocks.{clock-gives}
 use Rattle.chip.proofs.Accepted.{scan-fits}
 use Rattle.picture.specs.Drawing.{World, start, numberIn, next, after}
 use Rattle.picture.specs.Display.{Untouched, DisplayShowsPicture}
 use Rattle.picture.proofs.Holds.{memory-is-picture}
 use Rattle.picture.proofs.Buffers.{transferred-same, transferred-other}
-use Rattle.picture.proofs.Ready.{Ready, formedNumber, number-formed, done-ready}
+use Rattle.picture.proofs.Ready.{Ready, done-ready}
 use Rattle.picture.proofs.Agree.{start-holds, run-holds}
 
 -- the operation is no transfer into the buffer
@@ -61,7 +61,7 @@ module _ (n : ℕ) where
     where
       go : (r : ℕ) → number n (w .chip .control) (length (w .memory)) x ≡ r → Left buffer w (next n w x)
       go zero e =
-          let r = readIn (w .chip) x in
+          let r = readIn n (w .chip) x in
           rw e (
             done-ready n (w .chip .control) (w .chip .pixels) (w .memory) x r e,
             λ j hj. move-leaves (w .chip .control) r (w .memory) (w .chip .video) buffer j hj (operation x) (other e),
@@ -76,7 +76,7 @@ module _ (n : ℕ) where
       let rest = calls-leave buffer xs (next n w x) (one .0) others in
       (rest .0, λ j hj. rest .1 j hj ∙ one .1 j hj)
 
-  -- ---- the transfer, and the clock
+  -- ---- the transfer
 
   -- after a transfer its buffer has the scan line of memory, and the chip is ready
   transfer-done : (w : World) (bank line : ℕ) → length (w .chip .video) ≡ videoBytes → numberIn n w (ask 16 bank line 0 0 0) ≡ 0
@@ -86,15 +86,9 @@ module _ (n : ℕ) where
       ≡ getD (w .memory) (place (w .chip .control .pages) bank (openPage (w .chip .control .banks) bank) (onLine line j)) 0)
   unfolding next numberIn chipWith memoryWith videoAfter effect operation row callTable
   transfer-done w bank line sized done = rw done (
-    done-ready n (w .chip .control) (w .chip .pixels) (w .memory) (ask 16 bank line 0 0 0) (readIn (w .chip) (ask 16 bank line 0 0 0)) done,
+    done-ready n (w .chip .control) (w .chip .pixels) (w .memory) (ask 16 bank line 0 0 0) (readIn n (w .chip) (ask 16 bank line 0 0 0)) done,
     λ j hj. transferred-same _ (bufferOf bank) (w .memory) (w .chip .video) j sized (unfold bufferOf in (omega arith)) hj,
   )
-
-  -- where the chip is ready a clock is done, and puts out two bytes of the selected buffer
-  clock-done : (w : World) → Ready (w .chip .control) (w .memory)
-      → givenWith n (w .chip) (w .memory) (ask 17 0 0 0 0 0) ≡ doneWith (putOut (w .chip .control .scan) (videoByte (w .chip .video))) 0 0
-  unfolding givenWith formedNumber first callTests operandsFit isOperation row callTable operation inRange asks readIn reading effect
-  clock-done w ready = rw (number-formed n (w .chip .control) (w .memory) (ask 17 0 0 0 0 0) ready)
 
 -- what is put out of a buffer of these bytes
 bytes-out : (v : Scan) (video : List ℕ) (buffer : ℕ) (byte : ℕ → ℕ) → v .counter ≤ 39 → v .select ≡ buffer
@@ -114,6 +108,6 @@ display-shows-picture n P memory before later bank line fit sized fair done none
     let byte : List ℕ → ℕ → ℕ → ℕ = λ l P' j. getD l (place P' bank (openPage (w .chip .control .banks) bank) (onLine line j)) 0 in
     let same : (j : ℕ) → j < 80 → videoByte (v .chip .video) (bufferOf bank) j ≡ byte (w .flat .picture) P j = λ j hj.
     left .1 j hj ∙ taken .1 j hj ∙ ap₂ (λ (l : List ℕ) (P' : ℕ). byte l P' j) (memory-is-picture (i .holds) none) (i .pages) in
-    clock-done n v (left .0)
+    clock-gives (v .chip) (v .memory) (left .0 .0) (left .0 .1) n
     ∙ ap (λ (value : ℕ). doneWith value 0 0)
     (bytes-out (v .chip .control .scan) (v .chip .video) (bufferOf bank) _ (scan-fits (v .chip .control) (left .0 .0) .0) selected same)

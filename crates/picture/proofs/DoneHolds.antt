@@ -52,7 +52,7 @@ module _ (n : ℕ) (c : Control) (p m : List ℕ) (g : Book) (l : List ℕ) (h :
 
   -- both read the same, where a clock puts out the same
   pub reading-same : (out : ℕ) (o : Operation) → inRange n (c .pages) o ≡ true → Keeps n c g o
-      → reading (pictureByte (c .pages) g l) out o ≡ reading (slotByte p) out o
+      → reading n (c .registers) (pictureByte (c .pages) g l) out o ≡ reading n (c .registers) (slotByte p) out o
   unfolding reading inRange Keeps
   reading-same out (access b q) r y = refl
   reading-same out (precharge b) r y = refl
@@ -60,7 +60,9 @@ module _ (n : ℕ) (c : Control) (p m : List ℕ) (g : Book) (l : List ℕ) (h :
   reading-same out (readBlock b k s) r y = refl
   reading-same out (writeBlock m b k s) r y = refl
   reading-same out (dataRead s w) r (b, q, k, e) = rw (word-read s w b q k e (word-range n (c .pages) s w r .1))
-  reading-same out (dataWrite w) r ((b, q, k, e), y, z, v) = rw (word-read (w .slot) (w .word) b q k e (write-range n (c .pages) w r .1))
+  reading-same out (dataWrite w) r ((b, q, k, e), (b', q', k', e'), y, z) =
+      let at = write-range n (c .pages) w r .1 in
+      rw (word-read (w .slot) (w .word) b q k e at, word-read (intoSlot n (c .registers) w) (intoWord (c .registers) w) b' q' k' e' (into-word-lt (c .registers) w at))
   reading-same out (writeTag m s x) r y = refl
   reading-same out (writeRegister a v) r y = refl
   reading-same out (readRegister a) r y = refl

@@ -26,7 +26,7 @@ module _ (n : ℕ) (k : Chip) (m : List ℕ) (g : Book) (f : Flat) (x : Call) wh
       → let e = effectIn n k x in
       next n (worldOf k m g f) x
       ≡ worldOf (chipAfter k m e) (memoryAfter (k .control) (k .pixels) m (e .move))
-      (note n (k .control) g (operation x) (readIn k x)) (next n (worldOf k m g f) x .flat)
+      (note n (k .control) g (operation x) (readIn n k x)) (next n (worldOf k m g f) x .flat)
   unfolding next numberIn chipWith memoryWith worldOf
   next-done r = rw r
 

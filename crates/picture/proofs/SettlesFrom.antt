@@ -51,7 +51,7 @@ done {n} {c} {g} {x} {xs} own test rest = record { over = call }
     call p v m f ready =
         let k : Chip = record { control = c; pixels = p; video = v } in
         let zero-given = number-formed n c m x ready ∙ own in
-        let r = readIn k x in
+        let r = readIn n k x in
         let moved = effect n c (operation x) r .move in
         follows n (worldOf k m g f) _ x xs (next-done n k m g f x zero-given) (λ z. kept-keeps n c g (operation x) test)
         (rest r .over (pixelsAfter c p m moved) (videoAfter c v m moved) (memoryAfter c p m moved) _ (done-ready n c p m x r zero-given))

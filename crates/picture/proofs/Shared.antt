@@ -100,21 +100,21 @@ module _ (n : ℕ) (k : Chip) (m : List ℕ) (g : Book) (l : List ℕ) (t : List
   abbrev flatNext : Flat
   flatNext = next n (build k m g l t) x .flat
 
-  flat-done : number n (shared c) (length l) x ≡ 0 → flatRead n g (flatOf c l t) x ≡ readIn k x
+  flat-done : number n (shared c) (length l) x ≡ 0 → flatRead n g (flatOf c l t) x ≡ readIn n k x
       → let e = effectIn n k x in flatNext ≡ flatOf (ticked (e .control)) (pictureAfter c g l (e .move)) (flatNext .transfers)
   unfolding build worldOf next flatStep
   flat-done rf q =
-      let same = shared-call n c (operation x) (readIn k x) in
+      let same = shared-call n c (operation x) (readIn n k x) in
       rw (rf, q, same .1, same .2 g l, shared-ticked (effectIn n k x .control))
 
   flat-refused : (r : ℕ) → number n (shared c) (length l) x ≡ suc r → flatNext ≡ flatOf c l t
   unfolding build worldOf next flatStep
   flat-refused r rf = rw rf
 
-  pub done-next : number n c (length m) x ≡ 0 → number n (shared c) (length l) x ≡ 0 → flatRead n g (flatOf c l t) x ≡ readIn k x
+  pub done-next : number n c (length m) x ≡ 0 → number n (shared c) (length l) x ≡ 0 → flatRead n g (flatOf c l t) x ≡ readIn n k x
       → let e = effectIn n k x in
       next n (build k m g l t) x
-      ≡ build (chipAfter k m e) (memoryAfter c (k .pixels) m (e .move)) (note n c g (operation x) (readIn k x))
+      ≡ build (chipAfter k m e) (memoryAfter c (k .pixels) m (e .move)) (note n c g (operation x) (readIn n k x))
       (pictureAfter c g l (e .move)) (flatNext .transfers)
   unfolding build
   done-next r rf q = next-done n k m g (flatOf c l t) x r ∙ ap (worldOf _ _ _) (flat-done rf q)
@@ -124,9 +124,9 @@ module _ (n : ℕ) (k : Chip) (m : List ℕ) (g : Book) (l : List ℕ) (t : List
   refused-next r e ef = next-refused n k m g (flatOf c l t) x r e ∙ ap (worldOf k m g) (flat-refused r ef)
 
   -- after it the video buffers have what was last transferred into them
-  pub done-shows : number n (shared c) (length l) x ≡ 0 → flatRead n g (flatOf c l t) x ≡ readIn k x → Shows (c .pages) (k .video) t
+  pub done-shows : number n (shared c) (length l) x ≡ 0 → flatRead n g (flatOf c l t) x ≡ readIn n k x → Shows (c .pages) (k .video) t
       → Shows (c .pages) (videoAfter c (k .video) m (effectIn n k x .move)) (flatNext .transfers)
   unfolding build worldOf next flatStep
   done-shows rf q s =
-      let same = shared-call n c (operation x) (readIn k x) .3 m t in
+      let same = shared-call n c (operation x) (readIn n k x) .3 m t in
       rw (rf, q) (rw (← same) at (move-shows c m (effectIn n k x .move) s))

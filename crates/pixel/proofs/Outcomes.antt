@@ -1,18 +1,19 @@
 -- What a data write comes to, of each kind; what it leaves at its destination; and where that is. Assumes nothing.
-use mathlib.Core.Path.{_≡_, refl, sym, _∙_}
+use mathlib.Core.Path.{_≡_, refl, sym, ap, _∙_}
 use mathlib.Core.Bool.{Bool, true, false, cond, not, _&&_, and-true, and-false}
 use mathlib.Core.List.{List}
 use Prim.Native.Nat.{ℕ, _/_, _^_, _<_}
 use native.Mathlib.Nat.{mod-lt}
 use native.Mathlib.Omega.{arith}
-use lib.Dec.{lit<}
-use Rattle.bits.specs.Bits.{bit, byte, merge}
+use lib.Dec.{eqb, lit<}
+use Rattle.bits.specs.Bits.{bit, byte, differing, merge}
 use Rattle.bits.proofs.Laws.{bit-zero, word-ext}
 use Rattle.bits.proofs.Bytes.{each-byte}
+use Rattle.bits.proofs.Differs.{differing-lt, bit-differing}
 use Rattle.pixel.specs.declared.Write.{Write}
 use Rattle.pixel.specs.Pixel.{matchPasses, magnitudePasses, enabledBy, codeOf, fromConstant, newWord, rasterWord, mergeWord}
 use Rattle.pixel.specs.Registers.{register, planeMask, constantSource, matchMask, magnitudeMask, ropControl, compareControl, writeAddressControl, freshRegisters}
-use Rattle.pixel.specs.Writes.{used, intoSlot, intoWord, passesMatch, passesMagnitude, passOut, enabled, hits, taken, result, newByte, outcomeOf}
+use Rattle.pixel.specs.Writes.{used, intoSlot, intoWord, passesMatch, passesMagnitude, passOut, enabled, hits, taken, result, newByte, merged, changed, outcomeOf}
 use Rattle.pixel.proofs.Functions.{gc}
 use Rattle.pixel.proofs.Uses.{bit-raster, bit-new, merge-outside, byte-merge}
 
@@ -23,18 +24,15 @@ module _ (registers : List ℕ) (w : Write) (stateful : w .stateless ≡ false) 
   unfolding hits
   hits-stateful = rw stateful
 
-  pub stateful-law : (dest : ℕ) → outcomeOf registers w old dest ≡ (
+  pub stateful-law : (dest : ℕ) → (
       let matched = matchPasses (compareControl registers) (matchMask registers) old (w .given) (constantSource registers) in
       let magnitude = magnitudePasses (compareControl registers) (magnitudeMask registers) old (w .given) (constantSource registers) in
       let on = enabledBy (compareControl registers) (w .passin) matched magnitude in
       let new = newWord (ropControl registers) (w .given) (constantSource registers) in
-      record {
-        pass = matched && magnitude;
-        written = on;
-        taken = cond on (w .enables) 0;
-        word = mergeWord dest (rasterWord (ropControl registers) new old) (planeMask registers) (cond on (w .enables) 0);
-      })
-  unfolding outcomeOf passOut enabled taken result passesMatch passesMagnitude used
+      let word = mergeWord dest (rasterWord (ropControl registers) new old) (planeMask registers) (cond on (w .enables) 0) in
+      record { pass = matched && magnitude; written = on; taken = cond on (w .enables) 0; word = word; changed = differing dest word })
+      ≡ outcomeOf registers w old dest
+  unfolding outcomeOf changed merged passOut enabled taken result passesMatch passesMagnitude used
   stateful-law dest = rw stateful
 
 -- ---- a stateless write
@@ -63,27 +61,35 @@ module _ (registers : List ℕ) (w : Write) (stateless : w .stateless ≡ true) 
   unfolding hits
   hits-stateless = rw stateless
 
-  pub stateless-law : (dest : ℕ) → outcomeOf registers w old dest ≡ record {
-    pass = true;
-    written = true;
-    taken = w .enables;
-    word = mergeWord dest (w .given) 0xffff_ffff (w .enables);
-  }
-  unfolding outcomeOf passOut enabled taken result used register freshRegisters
+  pub stateless-law : (dest : ℕ) → (
+      let word = mergeWord dest (w .given) 0xffff_ffff (w .enables) in
+      record { pass = true; written = true; taken = w .enables; word = word; changed = differing dest word })
+      ≡ outcomeOf registers w old dest
+  unfolding outcomeOf changed merged passOut enabled taken result used register freshRegisters
   stateless-law dest =
-      rw stateless (λ i. record { pass = true; written = true; taken = w .enables; word = fresh-merge (w .given) (register registers 2) old dest 0xffff_ffff (w .enables) i })
+      let merges = sym (fresh-merge (w .given) (register registers 2) old dest 0xffff_ffff (w .enables)) in
+      rw stateless (λ i. record { pass = true; written = true; taken = w .enables; word = merges i; changed = differing dest (merges i) })
 
 -- ---- what it leaves at its destination
 
 module _ (registers : List ℕ) (w : Write) (old dest : ℕ) where
   -- each byte by itself
   pub byte-outcome : (n : ℕ) → n < 4 → byte (outcomeOf registers w old dest .word) n ≡ newByte registers w old n (byte dest n)
-  unfolding outcomeOf newByte
+  unfolding outcomeOf merged newByte
   byte-outcome n h = byte-merge dest (result registers w old) (planeMask (used registers w)) (taken registers w old) n h
+
+  -- 02, T-02: and whether it differs afterwards
+  pub bit-changed : (n : ℕ) → n < 4 → bit (changed registers w old dest) n ≡ not (eqb (byte dest n) (newByte registers w old n (byte dest n)))
+  unfolding changed outcomeOf
+  bit-changed n h = bit-differing dest (merged registers w old dest) n h ∙ ap (λ (b : ℕ). not (eqb (byte dest n) b)) (byte-outcome n h)
+
+  pub changed-lt : changed registers w old dest < 16
+  unfolding changed
+  changed-lt = differing-lt dest (merged registers w old dest)
 
   -- bits outside the plane mask are the destination's
   pub outcome-outside : (k : ℕ) → k < 32 → bit (planeMask (used registers w)) k ≡ false → bit (outcomeOf registers w old dest .word) k ≡ bit dest k
-  unfolding outcomeOf
+  unfolding outcomeOf merged
   outcome-outside k h e = merge-outside dest (result registers w old) (planeMask (used registers w)) (taken registers w old) k h e
 
 -- of two numbers below n, either is

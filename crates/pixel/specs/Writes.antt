@@ -3,7 +3,7 @@
 use mathlib.Core.Bool.{Bool, cond, not, _&&_, _||_}
 use mathlib.Core.List.{List, [], _∷_}
 use Prim.Native.Nat.{ℕ, _/_, _%_, _^_}
-use Rattle.bits.specs.Bits.{bit, byte, mergeByte}
+use Rattle.bits.specs.Bits.{bit, byte, differing, mergeByte}
 use Rattle.pixel.specs.declared.Write.{Write}
 use Rattle.pixel.specs.declared.Outcome.{Outcome}
 use Rattle.pixel.specs.Pixel.{matchPasses, magnitudePasses, enabledBy, newWord, rasterWord, mergeWord}
@@ -67,11 +67,20 @@ module _ (registers : List ℕ) (w : Write) (old : ℕ) where
   unfoldable pub newByte : ℕ → ℕ → ℕ
   newByte n dest = mergeByte (bit taken n) (byte (planeMask (used registers w)) n) dest (byte result n)
 
-  -- 01, Data write: all of it that is on words, where `dest` is the destination's word: pass-out, enabled, the bytes taken, and the word that it leaves
+  -- 01, Data write: the word that it leaves at its destination, where `dest` is the destination's word before it: the merge of one word
+  unfoldable pub merged : ℕ → ℕ
+  merged dest = mergeWord dest result (planeMask (used registers w)) taken
+
+  -- 02, T-02: the merge of one word also says, in four bits, which bytes of the destination differ afterwards
+  unfoldable pub changed : ℕ → ℕ
+  changed dest = differing dest (merged dest)
+
+  -- 01, Data write: all of it that is on words: pass-out, enabled, the bytes taken, the word that it leaves; 02, T-02: and which bytes differ
   unfoldable pub outcomeOf : ℕ → Outcome
   outcomeOf dest = record {
     pass = passOut;
     written = enabled;
     taken = taken;
-    word = mergeWord dest result (planeMask (used registers w)) taken;
+    word = merged dest;
+    changed = changed dest;
   }

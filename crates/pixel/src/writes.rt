@@ -34,11 +34,13 @@ pub fn stateful(registers: [u32; 7], w: Write, old: u32, dest: u32) -> Outcome
     let enabled = (w.passin == 3) & (both | (bits::bit_of(control, 10) & !matched));
     let taken = bits::pick(enabled, w.enables, 0);
     let result = raster(rop, select_new(rop, given, constant), old);
+    let word = merge(dest, result, registers[PLANE_MASK], taken);
     Outcome {
         pass: both,
         written: enabled,
         taken,
-        word: merge(dest, result, registers[PLANE_MASK], taken),
+        word,
+        changed: bits::differing(dest, word),
     }
 }
 
@@ -47,11 +49,13 @@ pub fn stateless(w: Write, dest: u32) -> Outcome
     requires { ⌜ w .stateless ≡ true ⌝ }
     ensures { λ r. ⌜ ((registers : List ℕ) (old : ℕ) → r ≡ outcomeOf registers w old dest) ⌝ }
 {
+    let word = merge(dest, w.given, 0xffff_ffff, w.enables);
     Outcome {
         pass: true,
         written: true,
         taken: w.enables,
-        word: merge(dest, w.given, 0xffff_ffff, w.enables),
+        word,
+        changed: bits::differing(dest, word),
     }
 }
 

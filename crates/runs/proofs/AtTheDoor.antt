@@ -95,7 +95,7 @@ module _ (c' : Control) where
       e = effectGiven (effectIn slots chip x)
 
       go : (k : ℕ) → numberSeen (operation x) (packed (whenDone k e (numbered k))) ≡ packed (seen (operation x) (whenDone k e (numbered k)) c' .given)
-      go zero = done-number slots (chip .control) (operation x) (readIn chip x)
+      go zero = done-number slots (chip .control) (operation x) (readIn slots chip x)
       go (suc k) = refused-number (operation x) (suc k)
 
 -- ---- a list of calls

@@ -123,5 +123,5 @@ whenDone-sized (suc k) a b done refused = refused
 pub stays-sized : (chip : Chip) (memory : List ℕ) (x : Call) → Sized chip → x .given < 2 ^ 32 → Sized (chipOf chip memory x)
 unfolding chipOf chipWith
 stays-sized chip memory x z h = whenDone-sized (number slots (chip .control) (length memory) x) _ _
-    (λ e. done-sized chip memory z (operation x) (readIn chip x) (accepted slots (chip .control) (length memory) x e .in-range) (word-given x h))
+    (λ e. done-sized chip memory z (operation x) (readIn slots chip x) (accepted slots (chip .control) (length memory) x e .in-range) (word-given x h))
     z

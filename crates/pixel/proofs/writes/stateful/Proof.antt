@@ -1,6 +1,5 @@
 -- `pixel::stateful`: what the calls ensure, from the last to the first, and `stateful-law`. Assumes nothing.
 -- (In what the check makes, the array of registers is `t1`.)
-use mathlib.Core.Path.{sym}
 use Rattle.pixel.specs.Pixel.{enabledBy}
 use Rattle.pixel.specs.Registers.{register}
 use Rattle.pixel.proofs.Outcomes.{stateful-law}
@@ -11,7 +10,7 @@ use Rattle.pixel.proofs.writes.stateful.Tie as tie
 returns : tie.Need-returns
 unfolding register enabledBy
 returns c =
-    let merged = c in
+    let merged = c .before in
     let rastered = merged .before in
     let selected = rastered .before in
     let picked = selected .before in
@@ -21,6 +20,7 @@ returns c =
     let start = matched .before in
     let a = start .args in
     rw (
+      c .differing .ensures,
       merged .merge .ensures,
       rastered .raster .ensures,
       selected .select-new .ensures,
@@ -29,11 +29,11 @@ returns c =
       magnitude .magnitude-passes .ensures,
       matched .match-passes .ensures,
     )
-    (sym (stateful-law (a .t1) (a .w) (start .pre) (a .old) (a .dest)))
+    (stateful-law (a .t1) (a .w) (start .pre) (a .old) (a .dest))
 
 pub stateful-spec : {M : Type 1} → statement M
 stateful-spec =
     tie.close
     (tie.spec (λ c. search needs) (λ c. search needs) (λ c. search needs) (λ c. search needs) (λ c κs. search needs) (λ c. search needs)
     (λ c κs. search needs) (λ c κs. search needs) (λ c κs. search needs) (λ c κs. search needs) (λ c κs. search needs) (λ c. search needs)
-    (λ c κs. search needs) returns)
+    (λ c κs. search needs) (λ c κs. search needs) returns)
