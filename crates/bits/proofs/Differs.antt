@@ -1,11 +1,11 @@
 -- Which bytes of two words differ: what `differing` computes, byte by byte, and its bits. Assumes nothing.
-use mathlib.Core.Path.{_≡_, refl, sym, ap, ap₂, _∙_, subst}
+use mathlib.Core.Path.{_≡_, refl, sym, ap, ap₂, _∙_}
 use mathlib.Core.Bool.{Bool, true, not}
 use Prim.Native.Nat.{ℕ, _+_, _*_, _/_, _%_, _^_, _<_, _≤_}
 use native.Mathlib.Decide.{ℕ-discrete}
 use native.Mathlib.Omega.{arith}
-use borrow.Author.Tests.{eq-eqb, ne-eqb}
-use lib.Dec.{eqb, T, eqb→eq, lit<}
+use borrow.Author.Tests.{eqb-true, eq-eqb, ne-eqb}
+use lib.Dec.{eqb, lit<}
 use lib.Bits.{bitAnd, bitOr, bitXor, and-le-l, and-le-r, and-lt, xor-lt, xor-self, xor-add-and, and-shr, and-mod, or-shr, or-mod, xor-shr, xor-mod}
 use Rattle.bits.specs.Bits.{bit, byte, digit, joined, every, differing}
 use Rattle.bits.proofs.Laws.{bit-word, word-lt, byte-lt}
@@ -13,17 +13,19 @@ use Rattle.bits.proofs.Bytes.{join-bytes, byte-joined-0, byte-joined-1,
 
 -- ---- a byte of two words
 
+module _ (op : ℕ → ℕ → ℕ) (shr : (a b k : ℕ) → op a b / 2 ^ k ≡ op (a / 2 ^ k) (b / 2 ^ k)) (rem : (a b k : ℕ) → op a b % 2 ^ k ≡ op (a % 2 ^ k) (b % 2 ^ k)) where
+  byte-op : (x y n : ℕ) → byte (op x y) n ≡ op (byte x n) (byte y n)
+  unfolding byte
+  byte-op x y n = ap (λ (m : ℕ). m % 2 ^ 8) (shr x y (8 * n)) ∙ rem (x / 2 ^ (8 * n)) (y / 2 ^ (8 * n)) 8
+
 byte-and : (x y n : ℕ) → byte (bitAnd x y) n ≡ bitAnd (byte x n) (byte y n)
-unfolding byte
-byte-and x y n = ap (λ (m : ℕ). m % 2 ^ 8) (and-shr x y (8 * n)) ∙ and-mod (x / 2 ^ (8 * n)) (y / 2 ^ (8 * n)) 8
+byte-and = byte-op bitAnd and-shr and-mod
 
 byte-or : (x y n : ℕ) → byte (bitOr x y) n ≡ bitOr (byte x n) (byte y n)
-unfolding byte
-byte-or x y n = ap (λ (m : ℕ). m % 2 ^ 8) (or-shr x y (8 * n)) ∙ or-mod (x / 2 ^ (8 * n)) (y / 2 ^ (8 * n)) 8
+byte-or = byte-op bitOr or-shr or-mod
 
 byte-xor : (x y n : ℕ) → byte (bitXor x y) n ≡ bitXor (byte x n) (byte y n)
-unfolding byte
-byte-xor x y n = ap (λ (m : ℕ). m % 2 ^ 8) (xor-shr x y (8 * n)) ∙ xor-mod (x / 2 ^ (8 * n)) (y / 2 ^ (8 * n)) 8
+byte-xor = byte-op bitXor xor-shr xor-mod
 
 -- two numbers are equal exactly if no bit differs
 xor-none : (a b : ℕ) → eqb (bitXor a b) 0 ≡ eqb a b
@@ -49,7 +51,7 @@ top-all = refl
 
 top-byte : (a : ℕ) → a < 256 → topped a ≡ digit (not (eqb a 0)) * 128
 unfolding top-test
-top-byte a h = eqb→eq _ _ (subst T (sym (every-at 256 top-test top-all a h)) tt)
+top-byte a h = eqb-true _ _ (every-at 256 top-test top-all a h)
 
 -- of a word: what is left of each byte is below 128, so no byte of the sum carries into the next
 sevens : (n : ℕ) → n < 4 → byte 0x7f7f_7f7f n ≡ 127
@@ -112,7 +114,7 @@ gather-all = refl
 
 gather : (m : ℕ) → m < 16 → apart m * 0x0020_4081 / 2 ^ 28 % 16 ≡ m
 unfolding gather-test
-gather m h = eqb→eq _ _ (subst T (sym (every-at 16 gather-test gather-all m h)) tt)
+gather m h = eqb-true _ _ (every-at 16 gather-test gather-all m h)
 
 -- ---- all of it
 
