@@ -395,7 +395,7 @@ static void tell(struct surface *s)
     struct counts *c = &s->counts;
     printf("   %lu pages opened, %lu blocks loaded, %lu words written, %lu blocks and %lu bytes written back\n",
            c->pages_opened, c->blocks_loaded, c->words_written, c->blocks_written_back, c->bytes_written_back);
-    printf("   %lu bytes drawn in these words, of which %lu changed: only they need painting again\n", c->bytes_drawn,
+    printf("   %lu bytes drawn in these words, of which %lu changed: only they are to be painted again\n", c->bytes_drawn,
            c->bytes_changed);
     memset(c, 0, sizeof *c);
 }

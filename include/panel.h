@@ -35,8 +35,8 @@ extern "C" {
 #endif
 
 /* ---- Version: the major number is raised by each growth of the state block, and by all else that a caller must follow; the
- * minor one by what is added beside. A library whose block has another length refuses this header's with PANEL_ILL_FORMED; one
- * of 2.0 takes it, and its data writes have value 0. ---- */
+ * minor one by what is added beside. A library whose block has another length refuses this header's with PANEL_ILL_FORMED.
+ * Library 2.0 has a block of this length and takes it; its data writes have value 0. ---- */
 
 #define PANEL_VERSION_MAJOR 3
 #define PANEL_VERSION_MINOR 0
@@ -95,8 +95,8 @@ enum panel_operation {
  * Initial writes first clear the tag of the slot that they write to, enabled or not; normal writes add to the tag.
  * The answer's pass says that both tests passed, written that the write was enabled; stateless writes answer 1 and 1.
  * The answer's value says which bytes of the word that was written to changed, and so what to paint again: bit n is 1 exactly
- * where byte n in the slot differs from before. It is 0 where the write was not enabled, and where it brought what was there
- * already: such bytes are tagged all the same. */
+ * where byte n in the slot differs from before. It is 0 where the write was not enabled. A byte that is written as it was has
+ * bit 0, and is tagged all the same. */
 
 #define PANEL_ALL_BYTES 15u /* byte enables: all four bytes of the word */
 #define PANEL_PASS_IN 3u    /* pass-in: both inputs high, as a stateful write needs */

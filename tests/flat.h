@@ -1,4 +1,5 @@
-/* flat.h: the flat picture of demand 3 and its premises (document 01, last section; for the display document 02, T-01).
+/* flat.h: the flat picture of demand 3 and its premises (document 01, last section; document 02, T-01 and T-02, for the
+ * display and for a data write's value, which is by the model's merge).
  * The flat picture is the whole memory under the same pixel rule, without slots or tags: a data call acts on the blocks that
  * its slots stand for, a duplicate copies the page, loads and write-backs change nothing. Video bytes are read from memory, not
  * from the picture: as it stood at the last done transfer into their buffer, and as 0 before one. */

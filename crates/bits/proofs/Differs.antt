@@ -37,7 +37,7 @@ xor-none a b = go (ℕ-discrete a b)
 
 -- ---- the top bit of each byte
 
--- of one byte: the sum's, or its own, is 1 exactly where the byte is not 0: tried at all 256
+-- of one byte: the sum's top bit, or the byte's own, is 1 exactly where the byte is not 0; tried at all 256
 topped : ℕ → ℕ
 topped a = bitAnd (bitOr (bitAnd a 127 + 127) a) 128
 

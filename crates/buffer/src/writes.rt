@@ -54,6 +54,7 @@ fn drawn(s: &[u8], registers: [u32; 7], w: Write, slot: u32, word: u32) -> Outco
     pixel::stateful(registers, w, old, dest)
 }
 
+// The refusal is the other arm and not an early return: else every call would pay for it (docs/DECISIONS.md).
 pub fn stateful_write(s: &mut [u8], x: Call) -> Answer
     requires { ⌜ IsBlock (now s) × (wellFormedBlock (now s) ≡ true) × (10 ≤ x .op) × (x .op ≤ 11) ⌝ }
     ensures { λ r. ⌜ (givenBack r ≡ ownGiven (now (s .entry)) x) × ((memory : List ℕ) → now (s .exit) ≡ ownBlock (now (s .entry)) memory x) ⌝ }
@@ -78,7 +79,7 @@ pub fn stateful_write(s: &mut [u8], x: Call) -> Answer
     }
 }
 
-// Its destination is (slot, word) whatever the registers hold.
+// Its destination is (slot, word) whatever the registers hold. The refusal is the other arm here too.
 pub fn stateless_write(s: &mut [u8], x: Call) -> Answer
     requires { ⌜ IsBlock (now s) × (wellFormedBlock (now s) ≡ true) × (8 ≤ x .op) × (x .op ≤ 9) ⌝ }
     ensures { λ r. ⌜ (givenBack r ≡ ownGiven (now (s .entry)) x) × ((memory : List ℕ) → now (s .exit) ≡ ownBlock (now (s .entry)) memory x) ⌝ }

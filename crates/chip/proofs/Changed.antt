@@ -1,19 +1,19 @@
 -- A data write's value says which bytes of its destination differ after the call: by the law of its bits, and what a write leaves. Assumes nothing.
 use mathlib.Core.Path.{_≡_, refl, sym, ap, _∙_}
-use mathlib.Core.Bool.{false, not}
+use mathlib.Core.Bool.{Bool, true, false, not}
 use mathlib.Core.List.{List}
 use Prim.Native.Nat.{ℕ, _+_, _*_, _<_}
 use native.Mathlib.Omega.{arith}
 use lib.Dec.{eqb}
 use borrow.Author.Tests.{eq-eqb, eqb-true, not-false}
 use lib.ListN.{length, getD}
-use Rattle.bits.specs.Bits.{bit, word, wordIn}
+use Rattle.bits.specs.Bits.{bit, digit, word, wordIn}
 use Rattle.bits.proofs.Laws.{bit-zero, word-of}
 use Rattle.lists.proofs.Updates.{update-same, update-none}
 use Rattle.bank.specs.Work.{inSlot}
 use Rattle.pixel.specs.declared.Write.{Write}
-use Rattle.pixel.specs.Writes.{intoSlot, intoWord, newByte, changed}
-use Rattle.pixel.proofs.Outcomes.{bit-changed, changed-lt, into-slot-lt, into-word-lt}
+use Rattle.pixel.specs.Writes.{intoSlot, intoWord, enabled, newByte, changed}
+use Rattle.pixel.proofs.Outcomes.{bit-changed, changed-lt, changed-off, into-slot-lt, into-word-lt}
 use Rattle.chip.specs.declared.Chip.{Chip}
 use Rattle.chip.specs.declared.Call.{Call}
 use Rattle.chip.specs.Painting.{painted}
@@ -37,6 +37,10 @@ module _ (n : ℕ) (chip : Chip) (memory : List ℕ) (x : Call) (w : Write) (d :
   value-is : givenWith n chip memory x .value ≡ changed registers w old (wordIn (slotByte (chip .pixels) (intoSlot n registers w)) (intoWord registers w))
   unfolding givenWith readIn reading effect
   value-is = rw (d .done, d .asked)
+
+  written-is : givenWith n chip memory x .written ≡ digit (enabled registers w old)
+  unfolding givenWith readIn reading effect
+  written-is = rw (d .done, d .asked)
 
   pixels-are : chipWith n chip memory x .pixels ≡ painted registers w old (inSlot (intoSlot n registers w)) (chip .pixels)
   unfolding chipWith readIn reading effect pixelsAfter
@@ -83,10 +87,18 @@ module _ (n : ℕ) (chip : Chip) (memory : List ℕ) (x : Call) (w : Write) (d :
       let off : not (eqb was is) ≡ false = sym (bit-told i h) ∙ ap (λ (v : ℕ). bit v i) none ∙ bit-zero i in
       sym (byte-left i h) ∙ sym (eqb-true was is (not-false (eqb was is) off)))
 
+  -- not enabled, it takes no byte
+  told-off : givenWith n chip memory x .written ≡ 0 → givenWith n chip memory x .value ≡ 0
+  told-off off = value-is ∙ changed-off registers w old _ (not-on (enabled registers w old) (sym written-is ∙ off))
+    where
+      not-on : (b : Bool) → digit b ≡ 0 → b ≡ false
+      not-on true e = absurd (omega (arith, e))
+      not-on false e = refl
+
 pub changed-told : ChangedTold
 unfolding ChangedTold slotByte
 changed-told n chip memory x w d = (value-lt n chip memory x w d, bit-told n chip memory x w d)
 
 pub none-changed : NoneChanged
 unfolding NoneChanged
-none-changed n chip memory x w d = (told-0 n chip memory x w d, left-same n chip memory x w d)
+none-changed n chip memory x w d = (told-0 n chip memory x w d, left-same n chip memory x w d, told-off n chip memory x w d)

@@ -4,7 +4,7 @@ use mathlib.Core.Bool.{not}
 use mathlib.Core.List.{List}
 use Prim.Native.Nat.{ℕ, _+_, _*_, _<_}
 use lib.Dec.{eqb}
-use lib.ListN.{length, replicate}
+use lib.ListN.{length}
 use Rattle.bits.specs.Bits.{bit}
 use Rattle.lists.specs.Words.{Bytes}
 use Rattle.pixel.specs.declared.Write.{Write}
@@ -17,7 +17,7 @@ use Rattle.chip.specs.Effects.{slotByte}
 use Rattle.chip.specs.Answers.{doneWith, numbered}
 use Rattle.chip.specs.Refusals.{number}
 use Rattle.chip.specs.Calls.{givenWith, chipWith, callGiven, chipOf}
-use Rattle.chip.specs.Starred.{sample, elsewhere, zeros}
+use Rattle.chip.specs.Starred.{elsewhere, holding0F, zeros}
 
 -- x asks for the data write w, and is done, on a chip of n slots. (Arrays that code holds are of bytes and have their length)
 pub record DoneWrite (n : ℕ) (chip : Chip) (memory : List ℕ) (x : Call) (w : Write) : Type 0 where
@@ -38,18 +38,16 @@ ChangedTold = (n : ℕ) (chip : Chip) (memory : List ℕ) (x : Call) (w : Write)
     (value < 16)
     × ((i : ℕ) → i < 4 → bit value i ≡ not (eqb (byteIn (chip .pixels) i) (byteIn (chipWith n chip memory x .pixels) i))))
 
--- no bytes changed is 0, even where tags were set; and 0 is no bytes changed
+-- no bytes changed is 0, even where tags were set; 0 is no bytes changed; and a write that is not enabled has value 0
 unfoldable pub NoneChanged : Type 0
 NoneChanged = (n : ℕ) (chip : Chip) (memory : List ℕ) (x : Call) (w : Write) → DoneWrite n chip memory x w → (
     let value = givenWith n chip memory x .value in
     let after = chipWith n chip memory x .pixels in
-    (after ≡ chip .pixels → value ≡ 0) × (value ≡ 0 → after ≡ chip .pixels))
+    (after ≡ chip .pixels → value ≡ 0)
+    × (value ≡ 0 → after ≡ chip .pixels)
+    × (givenWith n chip memory x .written ≡ 0 → value ≡ 0))
 
 -- ---- by example
-
--- a chip whose slot 0 holds 0F0F0F0Fh in each word, with this plane mask and ROP control
-unfoldable pub holding0F : ℕ → ℕ → Chip
-holding0F mask rop = sample mask rop 0 0 (replicate 32 0x0f)
 
 unfoldable pub ChangedExamples : Type 0
 ChangedExamples =
@@ -61,7 +59,7 @@ ChangedExamples =
     × (callGiven (holding0F 0xffff_ffff 0x0606_0606) zeros (ask 11 0 0 1 3 0x3333_3333) ≡ doneWith 1 1 1)
     -- an initial write too
     × (callGiven (holding0F 0xffff_ffff 0x0606_0606) zeros (ask 10 0 0 15 3 0x3333_3333) ≡ doneWith 15 1 1)
-    -- stateless, with data 8F0F0F0Eh: bit 7 of byte 3 and bit 0 of byte 0 differ
+    -- stateless, whatever plane mask and ROP control hold (here 0), with data 8F0F0F0Eh: bit 7 of byte 3 and bit 0 of byte 0 differ
     × (callGiven (holding0F 0 0) zeros (ask 9 0 0 15 0 0x8f0f_0f0e) ≡ doneWith 9 1 1)
     × (callGiven (holding0F 0 0) zeros (ask 8 0 0 15 0 0x8f0f_0f0e) ≡ doneWith 9 1 1)
     -- code 5 keeps OLD: no bytes changed is 0, and the tag bits are set
@@ -69,7 +67,7 @@ ChangedExamples =
     × (tagOf (chipOf (holding0F 0xffff_ffff 0x0505_0505) zeros (ask 11 0 0 15 3 0x3333_3333) .control) 0 ≡ 15)
     -- pass-in is not 3, so the write is not enabled
     × (callGiven (holding0F 0xffff_ffff 0x0606_0606) zeros (ask 11 0 0 15 2 0x3333_3333) ≡ doneWith 0 1 0)
-    -- with write address control 1 slot 6, word 3 becomes 003C003Ch of 0: bytes 0 and 2 of the destination
+    -- with write address control 1 slot 6, word 3 becomes 003C003Ch, from 0: bytes 0 and 2 of the destination
     × (callGiven elsewhere zeros (ask 11 0 0 15 3 0x3333_3333) ≡ doneWith 5 1 1)
     -- a refusal has value 0: enables 16
     × (callGiven (holding0F 0xffff_ffff 0x0606_0606) zeros (ask 11 0 0 16 3 0x3333_3333) ≡ numbered 4)

@@ -96,7 +96,8 @@ afterWrite c w slot old =
     let tag = cond (w .initial) 0 (tagOf c slot) in
     withHit (withTag c slot (tagWith (c .registers) w old tag)) (c .hit || (c .picking && hits (c .registers) w old))
 
--- 01, Numbers: written is 1 exactly when the write is enabled, byte enables or not; 02, T-02: its value is which bytes of the destination differ
+-- 01, Numbers: written is 1 exactly when the write is enabled, byte enables or not; 02, T-02: every data write
+-- passes on as its value which bytes of the destination differ afterwards
 abbrev pub writing : Control → Write → ℕ → Reading → Effect
 writing c w slot r = record {
   value = changed (c .registers) w (r .old) (r .dest);

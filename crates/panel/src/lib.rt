@@ -14,7 +14,7 @@ ghost use Rattle.chip.specs.Operations.{ask};
 ghost use Rattle.block.specs.OnBlock.{callNumber, blockAfter, blockMemory, freshBlock};
 ghost use Rattle.panel.specs.Packs.{freshPacked, lineOffset, pointValue, pointPacked, columnPacked, columnsPacked};
 
-// Value in bits 31:0, pass in 32, written in 33.
+// Value in bits 31:0, pass in 32, written in 33. The two flags as one number: fewer instructions at every call.
 fn pack_done(value: u32, pass: bool, written: bool) -> u64
     ensures { λ r. ⌜ r ≡ packed (givenBack (Answer.Done value pass written)) ⌝ }
 {

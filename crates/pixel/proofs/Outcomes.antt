@@ -6,10 +6,12 @@ use Prim.Native.Nat.{ℕ, _/_, _^_, _<_}
 use native.Mathlib.Nat.{mod-lt}
 use native.Mathlib.Omega.{arith}
 use lib.Dec.{eqb, lit<}
-use Rattle.bits.specs.Bits.{bit, byte, differing, merge}
-use Rattle.bits.proofs.Laws.{bit-zero, word-ext}
+use borrow.Author.Tests.{eq-eqb}
+use Rattle.bits.specs.Bits.{bit, byte, word, differing, merge}
+use Rattle.bits.proofs.Laws.{bit-zero, byte-lt, word-ext, word-of}
 use Rattle.bits.proofs.Bytes.{each-byte}
 use Rattle.bits.proofs.Differs.{differing-lt, bit-differing}
+use Rattle.bits.proofs.Merges.{merge-off}
 use Rattle.pixel.specs.declared.Write.{Write}
 use Rattle.pixel.specs.Pixel.{matchPasses, magnitudePasses, enabledBy, codeOf, fromConstant, newWord, rasterWord, mergeWord}
 use Rattle.pixel.specs.Registers.{register, planeMask, constantSource, matchMask, magnitudeMask, ropControl, compareControl, writeAddressControl, freshRegisters}
@@ -86,6 +88,12 @@ module _ (registers : List ℕ) (w : Write) (old dest : ℕ) where
   pub changed-lt : changed registers w old dest < 16
   unfolding changed
   changed-lt = differing-lt dest (merged registers w old dest)
+
+  -- not enabled, it takes no byte
+  pub changed-off : enabled registers w old ≡ false → changed registers w old dest ≡ 0
+  unfolding newByte taken word
+  changed-off off = word-of 4 (changed registers w old dest) (λ n. false) changed-lt
+      (λ n h. bit-changed n h ∙ rw (off, bit-zero n, merge-off _ (byte dest n) _ (byte-lt dest n)) (ap not (eq-eqb (byte dest n) (byte dest n) refl)))
 
   -- bits outside the plane mask are the destination's
   pub outcome-outside : (k : ℕ) → k < 32 → bit (planeMask (used registers w)) k ≡ false → bit (outcomeOf registers w old dest .word) k ≡ bit dest k
