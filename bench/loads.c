@@ -1,12 +1,14 @@
-/* loads.c: five loads over a chip of 257 pages, for the library and for a plain C version (tests/model.c).
+/* loads.c: six loads over a chip of 257 pages, for the library and for a plain C version (tests/model.c).
  *
  *     loads                       for each load the ratio of times, library : plain C, measured in this run
+ *     loads names                 the names of the loads, one a line
  *     loads LOAD WHO CALLS        makes so many calls of one load with one implementation and nothing else, so that the
  *                                 difference of two instruction counts is that of the calls between them
  *
- * LOAD is redraw, writes, registers, reads or scan; redraw ends with its last whole block, so up to ten calls early, and scan with
- * its last whole line, up to forty. WHO is library, plain or loop; loop is a call that does nothing, and so what the loads' own
- * loops cost. A load that is not answered as it must be ends the program with status 1. */
+ * LOAD is redraw, writes, registers, reads, scan, or sparse with how many words of a slot are tagged: sparse-0, sparse-1,
+ * sparse-2 or sparse-8. redraw ends with its last whole block, so up to ten calls early, and scan with its last whole line, up to
+ * forty. WHO is library, plain or loop; loop is a call that does nothing, and so what the loads' own loops cost. A load that is
+ * not answered as it must be ends the program with status 1. */
 #define _POSIX_C_SOURCE 200809L
 #include <stdio.h>
 #include <stdlib.h>
@@ -69,9 +71,9 @@ static void write_word(struct bench *bench, uint32_t word, uint32_t data)
 }
 
 /* A call whose value is known. */
-static void get_value(struct bench *bench, uint32_t op, uint32_t a, uint32_t b, uint32_t value)
+static void get_value(struct bench *bench, uint32_t op, uint32_t a, uint32_t b, uint32_t c, uint32_t value)
 {
-    bench->other |= panel_value(make(bench, op, a, b, 0, 0, 0)) ^ value;
+    bench->other |= panel_value(make(bench, op, a, b, c, 0, 0)) ^ value;
 }
 
 /* A fresh chip for this implementation. It is made by the library: only calls are measured. */
@@ -161,7 +163,7 @@ static void reads(struct bench *bench)
     for (uint32_t word = 0; word < PANEL_WORDS; word++)
         set_up(bench, PANEL_STATELESS_WRITE, 0, word, PANEL_ALL_BYTES, word * UINT32_C(0x01020304));
     for (uint32_t n = 0; bench->left > 0; n++)
-        get_value(bench, PANEL_DATA_READ, 0, n % PANEL_WORDS, n % PANEL_WORDS * UINT32_C(0x01020304));
+        get_value(bench, PANEL_DATA_READ, 0, n % PANEL_WORDS, 0, n % PANEL_WORDS * UINT32_C(0x01020304));
 }
 
 /* A line of the display: a transfer into the selected buffer, and forty clocks put it out. */
@@ -170,7 +172,7 @@ static void scan_line(struct bench *bench, uint32_t bank, uint32_t line)
     const uint8_t *shown = bench->memory + bank * PANEL_PAGE_BYTES * PAGES + line * PANEL_LINE_BYTES;
     make(bench, PANEL_VIDEO_TRANSFER, bank, line, 0, 0, 0);
     for (uint32_t n = 0; n < PANEL_VIDEO_CLOCKS; n++)
-        get_value(bench, PANEL_VIDEO_CLOCK, 0, 0, get16(shown + 2 * n));
+        get_value(bench, PANEL_VIDEO_CLOCK, 0, 0, 0, get16(shown + 2 * n));
 }
 
 /* Each line of page 0 of two banks, which alternate as the selected buffer does, again and again. */
@@ -186,6 +188,27 @@ static void scan(struct bench *bench)
         scan_line(bench, n % 2, n / 2 % PANEL_LINES);
 }
 
+/* Write-backs alone, of eight slots by turns. Each has so many words tagged, from the word of its own number on, and holds other
+ * bytes than the block. */
+static void sparse(struct bench *bench, uint32_t words)
+{
+    set_up(bench, PANEL_ACCESS_PAGE, 0, 0, 0, 0);
+    for (uint32_t slot = 0; slot < PANEL_SLOTS; slot++) {
+        for (uint32_t word = 0; word < PANEL_WORDS; word++)
+            set_up(bench, PANEL_STATELESS_WRITE, slot, word, PANEL_ALL_BYTES, UINT32_C(0x01020304) * (slot + word + 1));
+        set_up(bench, PANEL_REPLACE_TAG, slot, 0, 0, 0);
+        for (uint32_t word = slot; word < slot + words; word++)
+            set_up(bench, PANEL_OR_TAG, slot, 0, 0, (uint32_t)PANEL_ALL_BYTES << 4 * (word % PANEL_WORDS));
+    }
+    for (uint32_t n = 0; bench->left > 0; n++)
+        get_value(bench, PANEL_MASKED_WRITE, 0, n % PANEL_BLOCKS, n % PANEL_SLOTS, 4 * words);
+}
+
+static void sparse_0(struct bench *bench) { sparse(bench, 0); }
+static void sparse_1(struct bench *bench) { sparse(bench, 1); }
+static void sparse_2(struct bench *bench) { sparse(bench, 2); }
+static void sparse_8(struct bench *bench) { sparse(bench, 8); }
+
 static const struct load {
     const char *name;
     void (*run)(struct bench *bench);
@@ -194,7 +217,11 @@ static const struct load {
              {"writes", writes, 1000000},
              {"registers", registers, 1000000},
              {"reads", reads, 1000000},
-             {"scan", scan, 41 * 25000}};
+             {"scan", scan, 41 * 25000},
+             {"sparse-0", sparse_0, 1000000},
+             {"sparse-1", sparse_1, 1000000},
+             {"sparse-2", sparse_2, 1000000},
+             {"sparse-8", sparse_8, 1000000}};
 enum { LOADS = sizeof loads / sizeof *loads };
 
 static void run(const struct load *load, const struct who *who, uint8_t *memory, unsigned long calls)
@@ -244,7 +271,7 @@ static void print_ratio(const struct load *load, uint8_t *memory)
 
 /* ---- The program ---- */
 
-static const char usage[] = "usage: loads [redraw|writes|registers|reads|scan library|plain|loop CALLS]";
+static const char usage[] = "usage: loads [names | LOAD library|plain|loop CALLS]; 'loads names' lists the loads";
 
 static void one(const char *load, const char *who, unsigned long calls, uint8_t *memory)
 {
@@ -267,6 +294,9 @@ int main(int argc, char **argv)
     else if (argc == 1)
         for (int l = 0; l < LOADS; l++)
             print_ratio(&loads[l], memory);
+    else if (argc == 2 && strcmp(argv[1], "names") == 0)
+        for (int l = 0; l < LOADS; l++)
+            puts(loads[l].name);
     else
         stop(usage);
     free(memory);

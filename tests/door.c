@@ -123,6 +123,8 @@ int main(int argc, char **argv)
     try_stored_scans();
     say("which bytes a data write changes", 0, seed);
     try_changed();
+    say("which words a write-back visits", 0, seed);
+    try_backs();
     try_each_size(seed, count);
     try_sizes(seed, count);
     bool tried = tried_all(), scanned = scanned_all(), drew = drew_all();

@@ -64,6 +64,12 @@ enum fault {
     TOLD_REFUSED,       /* a data write refused with 4 has a value */
     TOLD_C3_TO_C2,      /* byte 3 from C3h to C2h is not in the value */
     TOLD_IN_7_7,        /* write address control 1, slot 7, word 7: the value is 0 */
+    BACK_WHOLE_WORDS,   /* a write-back skips a word one of whose four tag bits is 0 */
+    BACK_LAST_WORD,     /* a write-back always skips the last word */
+    BACK_TURNED,        /* a write-back skips a word by the tag bits of the word as far from the other end */
+    BACK_ENDS,          /* a write-back ends at the first word whose four tag bits are 0 */
+    BACK_ONE_BIT,       /* a write-back skips word 6 where the third of its tag bits alone is 1 */
+    BACK_VISITS,        /* a write-back reads and writes words whose four tag bits are 0, and leaves them as they are */
     COUNTER_12345678,   /* counter 12345678h stays */
     DATA_12345678,      /* a stateful write of data 12345678h is not counted */
 };
@@ -125,27 +131,32 @@ uint64_t panel_scan_line(const uint8_t *state, size_t state_len, const uint8_t *
 
 /* ---- Calls ---- */
 
+static bool writes_back(const struct call *x) { return x->op == PANEL_MASKED_WRITE || x->op == PANEL_UNMASKED_WRITE; }
+
 /* What the mistakes look at, before a call that is done. */
 struct moment {
     uint32_t pages, counter, page, tag;
     bool into_7_7;       /* a stateful write by its data's address, to slot 7 and word 7 */
     bool no_hit;         /* picking is on, hit is clear */
-    size_t last;         /* in memory: the last byte that a write-back or a duplicate may change */
+    size_t last;         /* in memory: the last byte of a write-back's block or of a duplicate's page */
+    bool may_change;     /* the call may change it; else it is not looked at */
     uint8_t last_before; /* what it held */
 };
 
 static struct moment look(const uint8_t *state, const uint8_t *memory, const struct call *x)
 {
-    struct moment m = {model_pages(state), get32(state + PANEL_AT_COUNTER), PANEL_CLOSED, 0, false, false, 0, 0};
+    struct moment m = {model_pages(state), get32(state + PANEL_AT_COUNTER), PANEL_CLOSED, 0, false, false, 0, false, 0};
     if (x->op >= PANEL_ACCESS_PAGE && x->op <= PANEL_UNMASKED_WRITE)
         m.page = model_open_page(state, x->a);
     if (x->op == PANEL_DUPLICATE_PAGE)
         m.last = model_page_at(state, x->a, x->b) + PANEL_PAGE_BYTES - 1;
-    if (x->op == PANEL_MASKED_WRITE || x->op == PANEL_UNMASKED_WRITE) {
+    if (writes_back(x)) {
         m.last = model_page_at(state, x->a, m.page) + model_byte_in_page(x->b, 31);
         m.tag = model_tag(state, x->c);
     }
-    m.last_before = memory[m.last];
+    m.may_change = x->op == PANEL_DUPLICATE_PAGE || m.tag >> 31;
+    if (m.may_change)
+        m.last_before = memory[m.last];
     m.into_7_7 = (x->op == PANEL_STATEFUL_WRITE || x->op == PANEL_STATEFUL_INITIAL) && model_register(state, 7) == 1 &&
                  (x->data >> 24 & 63) == 63;
     m.no_hit = model_picking(state) && !model_hit(state);
@@ -181,7 +192,7 @@ static void spoil(uint8_t *state, uint8_t *memory, size_t memory_len, const stru
 {
     uint8_t *slot = state + PANEL_AT_PIXELS + 32 * x->c;
     bool stateful = x->op == PANEL_STATEFUL_WRITE || x->op == PANEL_STATEFUL_INITIAL;
-    if (leaves_last_byte(state, memory, x, m))
+    if (m->may_change && leaves_last_byte(state, memory, x, m))
         memory[m->last] = m->last_before;
     if (planted() == MEMORY_13 && x->op == PANEL_READ_BLOCK && past(memory) == 13)
         slot[31] = slot[30];
@@ -207,6 +218,48 @@ static void miscount(uint8_t *state, const struct call *x, const struct moment *
     if ((planted() == COUNTER_24_BITS && m->counter == 0x00FFFFFF) ||
         (planted() == COUNTER_31_BITS && m->counter == 0x7FFFFFFF))
         put32(state + PANEL_AT_COUNTER, 0);
+}
+
+/* ---- Words that a write-back skips ---- */
+
+static uint32_t four(uint32_t tag, uint32_t word) { return tag >> 4 * word & PANEL_ALL_BYTES; }
+
+static bool skips(uint32_t tag, uint32_t word)
+{
+    switch (planted()) {
+    case BACK_WHOLE_WORDS: return four(tag, word) != PANEL_ALL_BYTES;
+    case BACK_LAST_WORD: return word == 7;
+    case BACK_TURNED: return four(tag, 7 - word) == 0;
+    case BACK_ONE_BIT: return word == 6 && four(tag, word) == 4;
+    case BACK_ENDS:
+        for (uint32_t before = 0; before < word; before++)
+            if (four(tag, before) == 0)
+                return true;
+        return false;
+    default: return false;
+    }
+}
+
+/* A write-back with mistakes: by a tag without the words that it skips, whose value is the whole tag's. */
+static uint64_t back(uint8_t *state, uint8_t *memory, size_t memory_len, const struct call *x, uint32_t tag)
+{
+    uint8_t *at = state + PANEL_AT_TAGS + 4 * x->c;
+    size_t page = model_page_at(state, x->a, model_open_page(state, x->a));
+    uint32_t taken = tag;
+    uint64_t answer;
+    for (uint32_t word = 0; word < 8; word++)
+        if (skips(tag, word))
+            taken &= ~((uint32_t)PANEL_ALL_BYTES << 4 * word);
+    put32(at, taken);
+    answer = model_call(state, MODEL_STATE, memory, memory_len, x->op, x->a, x->b, x->c, x->d, x->data);
+    put32(at, tag);
+    for (uint32_t i = 0; i < 32; i++) {
+        volatile uint8_t *byte = memory + page + model_byte_in_page(x->b, i);
+        if (planted() == BACK_VISITS && four(tag, i / 4) == 0)
+            *byte = *byte;
+        answer += (tag & ~taken) >> i & 1;
+    }
+    return answer;
 }
 
 /* ---- Which bytes changed ---- */
@@ -301,12 +354,11 @@ static void follow(uint8_t *state, const uint8_t *memory, const struct call *x)
     static struct call last[PANEL_VIDEO_BUFFERS];
     static uint32_t page[PANEL_VIDEO_BUFFERS];
     uint32_t buffer = x->a % 2;
-    bool back = x->op == PANEL_MASKED_WRITE || x->op == PANEL_UNMASKED_WRITE;
     if (x->op == PANEL_VIDEO_TRANSFER) {
         last[buffer] = *x;
         page[buffer] = model_open_page(state, x->a);
     }
-    if (back && last[buffer].op != 0 && last[buffer].a == x->a && page[buffer] == model_open_page(state, x->a))
+    if (writes_back(x) && last[buffer].op != 0 && last[buffer].a == x->a && page[buffer] == model_open_page(state, x->a))
         put_line(state, memory, x->a, last[buffer].b, buffer);
 }
 
@@ -359,7 +411,8 @@ static uint64_t perform(uint8_t *state, uint8_t *memory, size_t memory_len, stru
         return 0;
     }
     turn(&x, state, &m);
-    answer = model_call(state, MODEL_STATE, memory, memory_len, x.op, x.a, x.b, x.c, x.d, x.data);
+    answer = writes_back(&x) ? back(state, memory, memory_len, &x, m.tag)
+                             : model_call(state, MODEL_STATE, memory, memory_len, x.op, x.a, x.b, x.c, x.d, x.data);
     answer = spoil_video(state, before, memory, &x, answer);
     if (x.op >= PANEL_STATELESS_INITIAL && x.op <= PANEL_STATEFUL_WRITE)
         answer = (answer & ~(uint64_t)0xFFFFFFFF) | mistell(state, before, &x, answer);

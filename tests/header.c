@@ -21,7 +21,7 @@ static void same(const char *what, unsigned long long found, unsigned long long 
 static void sizes(void)
 {
     SAME(PANEL_VERSION_MAJOR, 3); /* of a block of 512 bytes, and data writes that tell which bytes changed */
-    SAME(PANEL_VERSION_MINOR, 0);
+    SAME(PANEL_VERSION_MINOR, 1); /* with write-backs that skip words without a tag bit */
     SAME(PANEL_STATE_BYTES, 512);
     SAME(PANEL_MEMORY_BYTES(1), 5120);
     SAME(PANEL_MEMORY_BYTES(257), 4 * 328960);

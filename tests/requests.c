@@ -350,6 +350,64 @@ static void third_line(void)
     expect("the third call", call(11, 0, 0, 15, 3, 16909060), said(PASSED | WRITTEN, 15));
 }
 
+/* ---- T-03: write-backs on the old panel computer ---- */
+
+/* Byte i of block 22 of bank 1's page 1: the block is the sixth across and the third down. */
+static uint8_t *in_block(uint32_t i) { return scan_line(1, 1, 2 * 4 + i / 8) + 5 * 8 + i % 8; }
+
+/* Slot 6 differs from the block in each bit. It is written back with this tag: the tagged bytes change and no others, and the value
+ * is how many they are. */
+static void back_with(uint32_t op, uint32_t tag_bits)
+{
+    uint32_t tagged = 0;
+    done(PANEL_REPLACE_TAG, 6, 0, 0, 0, tag_bits);
+    keep();
+    for (uint32_t i = 0; i < 32; i++)
+        tagged += tag_bits >> i & 1;
+    expect("the answer", call(op, 1, 22, 6, 0, 0), tagged);
+    same_but_counter(1);
+    for (uint32_t i = 0; i < 32; i++) {
+        uint8_t was = old_memory[in_block(i) - memory];
+        expect("a byte of the block", *in_block(i), tag_bits >> i & 1 ? (uint8_t)~was : was);
+        *in_block(i) = was;
+    }
+    same_memory();
+}
+
+static void fresh_to_write_back(void)
+{
+    fresh_and_open(1);
+    for (uint32_t w = 0; w < 8; w++)
+        done(PANEL_STATELESS_WRITE, 6, w, PANEL_ALL_BYTES, 0, ~get32(in_block(4 * w)));
+}
+
+/* Each word alone, and all but it, with each of the patterns that its four bits can have. */
+static void words_skipped(void)
+{
+    for (uint32_t op = PANEL_MASKED_WRITE; op <= PANEL_UNMASKED_WRITE; op++) {
+        fresh_to_write_back();
+        for (uint32_t w = 0; w < 8; w++)
+            for (uint32_t four = 0; four < 16; four++) {
+                back_with(op, four << 4 * w);
+                back_with(op, ~(four << 4 * w));
+            }
+    }
+}
+
+/* No word, and each set of words: answer, state and memory are those of a write-back that visits all 32 bytes. */
+static void backs_as_before(void)
+{
+    for (uint32_t op = PANEL_MASKED_WRITE; op <= PANEL_UNMASKED_WRITE; op++) {
+        fresh_to_write_back();
+        for (uint32_t words = 0; words < 256; words++) {
+            uint32_t tag_bits = 0;
+            for (uint32_t w = 0; w < 8; w++)
+                tag_bits |= (words >> w & 1) * UINT32_C(15) << 4 * w;
+            back_with(op, tag_bits);
+        }
+    }
+}
+
 static const struct sentence sentences[] = {{"02-T01-01", two_buffers},
                                             {"02-T01-02", transfer_of_a_line},
                                             {"02-T01-03", bank_to_buffer},
@@ -371,6 +429,8 @@ static const struct sentence sentences[] = {{"02-T01-01", two_buffers},
                                             {"02-T02-02", value_if_not_enabled},
                                             {"02-T02-02", value_if_refused},
                                             {"02-T02-03", none_changed},
-                                            {"02-T02-04", third_line}};
+                                            {"02-T02-04", third_line},
+                                            {"02-T03-01", words_skipped},
+                                            {"02-T03-02", backs_as_before}};
 
 void try_requests(void) { TRY_EACH(sentences); }

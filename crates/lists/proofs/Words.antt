@@ -12,7 +12,7 @@ use Rattle.bits.specs.Bits.{byte, wordIn}
 use Rattle.bits.proofs.Bytes.{joined-lt, byte-word-in}
 use Rattle.lists.specs.Update.{update}
 use Rattle.lists.specs.Words.{Bytes, halfAt, putHalf, wordAt, putWord}
-use Rattle.lists.proofs.Updates.{length-update, update-at, update-ext, update-more}
+use Rattle.lists.proofs.Updates.{length-update, update-at, update-ext, update-more, update-none}
 
 -- the byte stores of code, one after the other
 pub half-stores : (p x : ℕ) (s : List ℕ) → x < 2 ^ 16 → set (set s p (x % 256)) (p + 1) (x / 256) ≡ putHalf p x s
@@ -80,11 +80,19 @@ word-at-once a x at v l here q =
     ∙ update-at 4 (λ n. a + n) at v l (λ n h. sym (here n h))
 
 -- one turn of a loop that goes word by word
-pub word-turn : (w a x : ℕ) (at : ℕ → ℕ) (v : ℕ → ℕ → ℕ) (l part : List ℕ) → part ≡ update (4 * w) at v l
-    → ((n : ℕ) → n < 4 → at (4 * w + n) ≡ a + n) → ((n : ℕ) → n < 4 → byte x n ≡ v (4 * w + n) (getD part (a + n) 0))
-    → putWord a x part ≡ update (4 * (w + 1)) at v l
-word-turn w a x at v l part e here q =
-    word-at-once a x (λ n. at (4 * w + n)) (λ n. v (4 * w + n)) part here q
-    ∙ ap (update 4 (λ n. at (4 * w + n)) (λ n. v (4 * w + n))) e
-    ∙ sym (update-more (4 * w) 4 at v l)
-    ∙ ap (λ (m : ℕ). update m at v l) (sym (mul-add 4 w 1))
+module _ (w : ℕ) (at : ℕ → ℕ) (v : ℕ → ℕ → ℕ) (l part : List ℕ) (e : part ≡ update (4 * w) at v l) where
+  next-word : update 4 (λ n. at (4 * w + n)) (λ n. v (4 * w + n)) part ≡ update (4 * (w + 1)) at v l
+  next-word =
+      ap (update 4 (λ n. at (4 * w + n)) (λ n. v (4 * w + n))) e
+      ∙ sym (update-more (4 * w) 4 at v l)
+      ∙ ap (λ (m : ℕ). update m at v l) (sym (mul-add 4 w 1))
+
+  -- that puts the word
+  pub word-turn : (a x : ℕ) → ((n : ℕ) → n < 4 → at (4 * w + n) ≡ a + n)
+      → ((n : ℕ) → n < 4 → byte x n ≡ v (4 * w + n) (getD part (a + n) 0)) → putWord a x part ≡ update (4 * (w + 1)) at v l
+  word-turn a x here q = word-at-once a x (λ n. at (4 * w + n)) (λ n. v (4 * w + n)) part here q ∙ next-word
+
+  -- that skips it, as the rule leaves its four bytes
+  pub skip-turn : ((n : ℕ) → n < 4 → v (4 * w + n) (getD part (at (4 * w + n)) 0) ≡ getD part (at (4 * w + n)) 0)
+      → part ≡ update (4 * (w + 1)) at v l
+  skip-turn left = sym (update-none 4 (λ n. at (4 * w + n)) (λ n. v (4 * w + n)) part left) ∙ next-word

@@ -14,11 +14,21 @@ ghost use Rattle.chip.specs.Operations.{ask};
 ghost use Rattle.block.specs.OnBlock.{callNumber, blockAfter, blockMemory, freshBlock};
 ghost use Rattle.panel.specs.Packs.{freshPacked, lineOffset, pointValue, pointPacked, columnPacked, columnsPacked};
 
-// Value in bits 31:0, pass in 32, written in 33. The two flags as one number: fewer instructions at every call.
+// Value in bits 31:0, pass in 32, written in 33. By cases: an operation without flags then packs none.
 fn pack_done(value: u32, pass: bool, written: bool) -> u64
     ensures { λ r. ⌜ r ≡ packed (givenBack (Answer.Done value pass written)) ⌝ }
 {
-    (value as u64) + ((bits::digit_of(pass) + 2 * bits::digit_of(written)) as u64) * 0x1_0000_0000
+    let number = value as u64;
+    if pass {
+        if written {
+            return number + 0x3_0000_0000;
+        }
+        return number + 0x1_0000_0000;
+    }
+    if written {
+        return number + 0x2_0000_0000;
+    }
+    number
 }
 
 // A value, and a number in bits 47:40.

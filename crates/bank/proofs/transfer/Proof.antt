@@ -34,8 +34,8 @@ loop-again c =
     let a = known .before .args in (
       omega arith,
       ap length put ∙ length-put-word _ _ _ ∙ turn .inv .1,
-      put ∙ word-turn (turn .w) (a .buffer * 80 + 4 * turn .w) _ (inBuffer (a .buffer)) (λ j was. getD (a .memory .now) (a .start + j) 0) (a .video .now) (turn .video)
-          (turn .inv .2) (λ n h. buffer-word (a .buffer) (turn .w) n)
+      put ∙ word-turn (turn .w) (inBuffer (a .buffer)) (λ j was. getD (a .memory .now) (a .start + j) 0) (a .video .now) (turn .video)
+          (turn .inv .2) (a .buffer * 80 + 4 * turn .w) _ (λ n h. buffer-word (a .buffer) (turn .w) n)
           (λ n h. rw (read, ← (add-assoc (a .start) (4 * turn .w) n)) (byte-word-at (a .memory .now) (a .start + 4 * turn .w) (λ i. omega (arith, known .shared-slice-known .given i)) n h)),
     )
 
