@@ -188,8 +188,8 @@ static void scan(struct bench *bench)
         scan_line(bench, n % 2, n / 2 % PANEL_LINES);
 }
 
-/* Write-backs alone, of eight slots by turns. Each has so many words tagged, from the word of its own number on, and holds other
- * bytes than the block. */
+/* Write-backs alone, of eight slots by turns. Each has so many words tagged, from the word of its own number on and as far apart as
+ * they can be. */
 static void sparse(struct bench *bench, uint32_t words)
 {
     set_up(bench, PANEL_ACCESS_PAGE, 0, 0, 0, 0);
@@ -197,8 +197,9 @@ static void sparse(struct bench *bench, uint32_t words)
         for (uint32_t word = 0; word < PANEL_WORDS; word++)
             set_up(bench, PANEL_STATELESS_WRITE, slot, word, PANEL_ALL_BYTES, UINT32_C(0x01020304) * (slot + word + 1));
         set_up(bench, PANEL_REPLACE_TAG, slot, 0, 0, 0);
-        for (uint32_t word = slot; word < slot + words; word++)
-            set_up(bench, PANEL_OR_TAG, slot, 0, 0, (uint32_t)PANEL_ALL_BYTES << 4 * (word % PANEL_WORDS));
+        for (uint32_t n = 0; n < words; n++)
+            set_up(bench, PANEL_OR_TAG, slot, 0, 0,
+                   (uint32_t)PANEL_ALL_BYTES << 4 * ((slot + n * (PANEL_WORDS / words)) % PANEL_WORDS));
     }
     for (uint32_t n = 0; bench->left > 0; n++)
         get_value(bench, PANEL_MASKED_WRITE, 0, n % PANEL_BLOCKS, n % PANEL_SLOTS, 4 * words);

@@ -1,19 +1,17 @@
 /* backs.c: write-backs by the tag's words. Every set of words with several patterns of bits, masked and unmasked: what memory must
  * hold is taken from the tag's bits, not from the model, and pair.h says what is compared beside. And a word whose four tag bits
- * are 0 is not visited: it lies in a part of memory that can be neither read nor written while the call runs. */
+ * are 0 is not visited: memory on the side of the block that has no tag bit can be neither read nor written while the call runs.
+ * A visit to a word between tagged ones, or to the slot alone, is not seen here; the instructions that bench/run counts show it. */
 #define _DEFAULT_SOURCE
 #include "phases.h"
 
 #include <setjmp.h>
 #include <signal.h>
-#include <stdlib.h>
 #include <sys/mman.h>
 #include <unistd.h>
 
 #include "pair.h"
 #include "panel.h"
-
-#define COUNT(list) (sizeof(list) / sizeof *(list))
 
 static const uint32_t plane_mask = 0x0FF0AA55;
 
@@ -51,35 +49,23 @@ static uint8_t written_byte(uint32_t op, uint32_t slot, uint32_t tag, uint32_t i
 
 /* ---- Every set of words ---- */
 
-static uint64_t call(struct pair *pair, uint32_t op, uint32_t a, uint32_t b, uint32_t c, uint32_t d, uint32_t data)
-{
-    struct call x = {op, a, b, c, d, data};
-    return pair_call(pair, &x);
-}
-
 static void fill_slots(struct pair *pair)
 {
     for (uint32_t i = 0; i < PANEL_SLOTS * PANEL_WORDS; i++) {
         uint8_t bytes[4];
         for (uint32_t n = 0; n < 4; n++)
             bytes[n] = slot_byte(i / PANEL_WORDS, i % PANEL_WORDS * 4 + n);
-        call(pair, PANEL_STATELESS_WRITE, i / PANEL_WORDS, i % PANEL_WORDS, PANEL_ALL_BYTES, 0, get32(bytes));
+        pair_make_call(pair, PANEL_STATELESS_WRITE, i / PANEL_WORDS, i % PANEL_WORDS, PANEL_ALL_BYTES, 0, get32(bytes));
     }
 }
 
 /* A chip of one page, open in each bank. */
 static struct pair start(void)
 {
-    struct pair pair;
-    uint8_t state[MODEL_STATE], *memory;
-    pair_make(&pair, 1);
-    memory = need(pair.memory_len);
-    model_fresh(state, sizeof state, 1);
-    pair_start(&pair, state, memory);
-    free(memory);
+    struct pair pair = pair_of_fresh(1);
     for (uint32_t bank = 0; bank < PANEL_BANKS; bank++)
-        call(&pair, PANEL_ACCESS_PAGE, bank, 0, 0, 0, 0);
-    call(&pair, PANEL_WRITE_REGISTER, PANEL_PLANE_MASK, 0, 0, 0, plane_mask);
+        pair_make_call(&pair, PANEL_ACCESS_PAGE, bank, 0, 0, 0, 0);
+    pair_make_call(&pair, PANEL_WRITE_REGISTER, PANEL_PLANE_MASK, 0, 0, 0, plane_mask);
     fill_slots(&pair);
     return pair;
 }
@@ -90,9 +76,9 @@ static void write_back(struct pair *pair, uint32_t op, uint32_t bank, uint32_t b
     struct call back = {op, bank, block, slot, 0, 0};
     const uint8_t *page = pair->library.memory + bank * PANEL_PAGE_BYTES;
     uint64_t answer;
-    call(pair, PANEL_REPLACE_TAG, slot ^ 1, 0, 0, 0, 0xFFFFFFFF);
-    call(pair, PANEL_UNMASKED_WRITE, bank, block, slot ^ 1, 0, 0);
-    call(pair, PANEL_REPLACE_TAG, slot, 0, 0, 0, tag);
+    pair_make_call(pair, PANEL_REPLACE_TAG, slot ^ 1, 0, 0, 0, 0xFFFFFFFF);
+    pair_make_call(pair, PANEL_UNMASKED_WRITE, bank, block, slot ^ 1, 0, 0);
+    pair_make_call(pair, PANEL_REPLACE_TAG, slot, 0, 0, 0, tag);
     answer = pair_call(pair, &back);
     if (answer != ones(tag))
         wrong_at(pair, &back, "the answer of a write-back", answer, ones(tag));
@@ -101,14 +87,15 @@ static void write_back(struct pair *pair, uint32_t op, uint32_t bank, uint32_t b
             wrong_at(pair, &back, "a byte of the block", page[model_byte_in_page(block, i)], written_byte(op, slot, tag, i));
 }
 
+/* Bank, block and slot go round by numbers that have nothing in common with 256, so that every set comes with all of them. */
 static void each_set(struct pair *pair)
 {
     static const uint32_t patterns[] = {0xFFFFFFFF, 0x11111111, 0x22222222, 0x44444444, 0x88888888, 0xEEEEEEEE,
                                         0xDDDDDDDD, 0xBBBBBBBB, 0x77777777, 0x12481248, 0x8C6319F7};
     for (uint32_t n = 0; n < 256 * COUNT(patterns); n++) {
-        uint32_t tag = bits_of(n % 256) & patterns[n / 256];
-        write_back(pair, PANEL_MASKED_WRITE, n % PANEL_BANKS, n % PANEL_BLOCKS, n / 3 % PANEL_SLOTS, tag);
-        write_back(pair, PANEL_UNMASKED_WRITE, n / 5 % PANEL_BANKS, n / 7 % PANEL_BLOCKS, n % PANEL_SLOTS, tag);
+        uint32_t tag = bits_of(n % 256) & patterns[n / 256], bank = n / 3 % PANEL_BANKS, block = n / 7 % PANEL_BLOCKS;
+        write_back(pair, PANEL_MASKED_WRITE, bank, block, n / 11 % PANEL_SLOTS, tag);
+        write_back(pair, PANEL_UNMASKED_WRITE, bank, block, n / 13 % PANEL_SLOTS, tag);
     }
 }
 
@@ -120,17 +107,41 @@ struct divided {
     uint8_t *room, *border, *end, *memory;
 };
 
-static sigjmp_buf visited;
-static void on_visit(int signal)
+/* The part that is closed now, none where both are NULL, and where in it something was read or written. */
+static uint8_t *closed, *closed_end, *volatile visited;
+static sigjmp_buf back_from_visit;
+
+/* What is no visit is for whoever had the signal before: the instruction is tried again, and ends the program. */
+static struct sigaction before;
+static void on_visit(int number, siginfo_t *about, void *unused)
 {
-    (void)signal;
-    siglongjmp(visited, 1);
+    uint8_t *at = about->si_addr;
+    (void)unused;
+    if (closed == NULL || at < closed || at >= closed_end) {
+        sigaction(number, &before, NULL);
+        return;
+    }
+    visited = at;
+    siglongjmp(back_from_visit, 1);
 }
 
 static void protect(uint8_t *from, uint8_t *to, int how)
 {
     if (mprotect(from, (size_t)(to - from), how) != 0)
         wrong("memory cannot be closed or opened", 1, 0);
+}
+
+static void close_part(uint8_t *from, uint8_t *to)
+{
+    closed = from;
+    closed_end = to;
+    protect(from, to, PROT_NONE);
+}
+
+static void open_part(void)
+{
+    protect(closed, closed_end, PROT_READ | PROT_WRITE);
+    closed = closed_end = NULL;
 }
 
 /* In each half of the room there is a place for all of memory. */
@@ -143,8 +154,17 @@ static struct divided divide(void)
         wrong("no memory to close", 1, 0);
     d.border = d.room + half;
     d.end = d.border + half;
-    d.memory = d.room;
     return d;
+}
+
+/* A byte of a part that is closed cannot be read: else nothing would be tested. */
+static void must_be_closed(uint8_t *from, uint8_t *to, const volatile uint8_t *byte)
+{
+    if (sigsetjmp(back_from_visit, 1) == 0) {
+        close_part(from, to);
+        wrong("closed memory can be read", *byte, 0);
+    }
+    open_part();
 }
 
 static uint64_t direct(struct divided *d, uint32_t op, uint32_t a, uint32_t b, uint32_t c, uint32_t data)
@@ -156,9 +176,8 @@ static uint64_t direct(struct divided *d, uint32_t op, uint32_t a, uint32_t b, u
  * with all bits turned. */
 static void lay(struct divided *d, uint32_t bank, uint32_t block, uint32_t first)
 {
-    size_t at = bank * PANEL_PAGE_BYTES +
-                (first < PANEL_WORDS ? model_byte_in_page(block, 4 * first) : model_byte_in_page(block, 31) + 1);
-    d->memory = d->border - at;
+    size_t in_page = first < PANEL_WORDS ? model_byte_in_page(block, 4 * first) : model_byte_in_page(block, 31) + 1;
+    d->memory = d->border - bank * PANEL_PAGE_BYTES - in_page;
     panel_fresh(d->state, sizeof d->state, 1);
     direct(d, PANEL_ACCESS_PAGE, bank, 0, 0, 0);
     direct(d, PANEL_WRITE_REGISTER, PANEL_PLANE_MASK, 0, 0, plane_mask);
@@ -168,17 +187,18 @@ static void lay(struct divided *d, uint32_t bank, uint32_t block, uint32_t first
     }
 }
 
-/* Slot 4 with these words tagged, written back while the bytes from `closed` to `until` are closed. */
-static void back_beside(struct divided *d, uint32_t op, uint32_t bank, uint32_t block, uint32_t words, uint8_t *closed,
-                        uint8_t *until)
+/* Slot 4 with these words tagged, written back while a part is closed. */
+static void back_beside(struct divided *d, uint32_t op, uint32_t bank, uint32_t block, uint32_t words, uint8_t *from,
+                        uint8_t *to)
 {
     uint64_t answer;
     direct(d, PANEL_REPLACE_TAG, 4, 0, 0, bits_of(words));
-    if (sigsetjmp(visited, 1) != 0)
-        wrong("a word without a tag bit is visited; the tag", bits_of(words), bits_of(words));
-    protect(closed, until, PROT_NONE);
+    if (sigsetjmp(back_from_visit, 1) != 0)
+        wrong("a word without a tag bit is visited; the byte of memory, and the tag", (uint64_t)(visited - d->memory),
+              bits_of(words));
+    close_part(from, to);
     answer = direct(d, op, bank, block, 4, 0);
-    protect(closed, until, PROT_READ | PROT_WRITE);
+    open_part();
     if (answer != 4 * ones(words))
         wrong("the answer of a write-back beside closed memory", answer, 4 * ones(words));
     for (uint32_t i = 0; i < PANEL_BLOCK_BYTES; i++) {
@@ -200,20 +220,25 @@ static void each_side(struct divided *d, uint32_t op, uint32_t bank, uint32_t bl
     back_beside(d, op, bank, block, 0, d->room, d->end);
 }
 
-static void not_visited(void)
+static void each_border(struct divided *d)
 {
     static const uint32_t blocks[] = {0, 6, 17, 39};
-    struct sigaction action = {.sa_handler = on_visit}, was[2];
-    struct divided d = divide();
-    sigaction(SIGSEGV, &action, &was[0]);
-    sigaction(SIGBUS, &action, &was[1]);
     for (uint32_t first = 0; first <= PANEL_WORDS; first++)
-        for (uint32_t n = 0; n < 4; n++) {
-            each_side(&d, PANEL_MASKED_WRITE, n, blocks[n], first);
-            each_side(&d, PANEL_UNMASKED_WRITE, 3 - n, blocks[n], first);
+        for (uint32_t n = 0; n < COUNT(blocks); n++) {
+            each_side(d, PANEL_MASKED_WRITE, n, blocks[n], first);
+            each_side(d, PANEL_UNMASKED_WRITE, 3 - n, blocks[n], first);
         }
-    sigaction(SIGSEGV, &was[0], NULL);
-    sigaction(SIGBUS, &was[1], NULL);
+}
+
+static void not_visited(void)
+{
+    struct sigaction action = {.sa_sigaction = on_visit, .sa_flags = SA_SIGINFO};
+    struct divided d = divide();
+    sigaction(SIGSEGV, &action, &before);
+    must_be_closed(d.room, d.border, d.border - 1);
+    must_be_closed(d.border, d.end, d.border);
+    each_border(&d);
+    sigaction(SIGSEGV, &before, NULL);
     munmap(d.room, (size_t)(d.end - d.room));
 }
 

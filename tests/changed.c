@@ -3,12 +3,8 @@
  * reads of the destination before the write and after it, not from the model. pair.h says what is compared beside. */
 #include "phases.h"
 
-#include <stdlib.h>
-
 #include "pair.h"
 #include "panel.h"
-
-#define COUNT(list) (sizeof(list) / sizeof *(list))
 
 enum { FIRST_WRITE = PANEL_STATELESS_INITIAL, LAST_WRITE = PANEL_STATEFUL_WRITE };
 enum { SLOT = 2, WORD = 5 }; /* where the writes read, and most of them write */
@@ -17,23 +13,17 @@ static unsigned long told[LAST_WRITE + 1][16]; /* how often each write had each 
 
 /* ---- One write ---- */
 
-static uint64_t call(struct pair *pair, uint32_t op, uint32_t a, uint32_t b, uint32_t c, uint32_t d, uint32_t data)
-{
-    struct call x = {op, a, b, c, d, data};
-    return pair_call(pair, &x);
-}
-
 static void set(struct pair *pair, uint32_t number, uint32_t value)
 {
-    call(pair, PANEL_WRITE_REGISTER, number, 0, 0, 0, value);
+    pair_make_call(pair, PANEL_WRITE_REGISTER, number, 0, 0, 0, value);
 }
 static uint32_t word_at(struct pair *pair, uint32_t slot, uint32_t word)
 {
-    return panel_value(call(pair, PANEL_DATA_READ, slot, word, 0, 0, 0));
+    return panel_value(pair_make_call(pair, PANEL_DATA_READ, slot, word, 0, 0, 0));
 }
 static void put(struct pair *pair, uint32_t slot, uint32_t word, uint32_t bytes)
 {
-    call(pair, PANEL_STATELESS_WRITE, slot, word, PANEL_ALL_BYTES, 0, bytes);
+    pair_make_call(pair, PANEL_STATELESS_WRITE, slot, word, PANEL_ALL_BYTES, 0, bytes);
 }
 
 static uint32_t differing(uint32_t before, uint32_t after)
@@ -69,18 +59,6 @@ static void look_for(struct pair *pair, const struct call *write, uint32_t expec
         wrong_at(pair, write, "the bytes that it must change", panel_value(answer), expected);
 }
 
-static struct pair start(void)
-{
-    struct pair pair;
-    uint8_t state[MODEL_STATE], *memory;
-    pair_make(&pair, 1);
-    memory = need(pair.memory_len);
-    model_fresh(state, sizeof state, 1);
-    pair_start(&pair, state, memory);
-    free(memory);
-    return pair;
-}
-
 /* ---- Bits and bytes ---- */
 
 /* A change in one bit alone, of a word of each kind, tells its byte; and nothing where that byte is not enabled. */
@@ -107,7 +85,7 @@ static void each_byte(struct pair *pair)
         uint32_t n = i % 4, from = i / 4 % 256, to = i / 1024, beside = (uint32_t)0xA53C7E81 & ~((uint32_t)0xFF << 8 * n);
         uint64_t answer;
         put(pair, SLOT, WORD, beside | from << 8 * n);
-        answer = call(pair, PANEL_STATEFUL_WRITE, SLOT, WORD, 15, PANEL_PASS_IN, beside | to << 8 * n);
+        answer = pair_make_call(pair, PANEL_STATEFUL_WRITE, SLOT, WORD, 15, PANEL_PASS_IN, beside | to << 8 * n);
         if (panel_value(answer) != (uint32_t)(from != to) << n)
             wrong_at(pair, NULL, "one byte over another", panel_value(answer), (uint32_t)(from != to) << n);
     }
@@ -237,7 +215,7 @@ static void told_all(void)
 
 void try_changed(void)
 {
-    struct pair pair = start();
+    struct pair pair = pair_of_fresh(1);
     each_bit(&pair);
     each_byte(&pair);
     each_raster(&pair);

@@ -70,6 +70,8 @@ enum fault {
     BACK_ENDS,          /* a write-back ends at the first word whose four tag bits are 0 */
     BACK_ONE_BIT,       /* a write-back skips word 6 where the third of its tag bits alone is 1 */
     BACK_VISITS,        /* a write-back reads and writes words whose four tag bits are 0, and leaves them as they are */
+    BACK_VISITS_ONE,    /* a write-back reads word 5 where its four tag bits are 0 */
+    BACK_VISITS_INSIDE, /* a write-back reads words whose four tag bits are 0 between words that have some */
     COUNTER_12345678,   /* counter 12345678h stays */
     DATA_12345678,      /* a stateful write of data 12345678h is not counted */
 };
@@ -240,6 +242,17 @@ static bool skips(uint32_t tag, uint32_t word)
     }
 }
 
+/* Byte i of the block, whose word has no tag bit: read, or written as it is, by mistake. */
+static void visit(volatile uint8_t *byte, uint32_t tag, uint32_t i)
+{
+    uint32_t bit = i & ~(uint32_t)3;
+    bool inside = tag >> bit != 0 && (tag & (((uint32_t)1 << bit) - 1)) != 0;
+    if (planted() == BACK_VISITS)
+        *byte = *byte;
+    if ((planted() == BACK_VISITS_ONE && i / 4 == 5) || (planted() == BACK_VISITS_INSIDE && inside))
+        (void)*byte;
+}
+
 /* A write-back with mistakes: by a tag without the words that it skips, whose value is the whole tag's. */
 static uint64_t back(uint8_t *state, uint8_t *memory, size_t memory_len, const struct call *x, uint32_t tag)
 {
@@ -255,8 +268,8 @@ static uint64_t back(uint8_t *state, uint8_t *memory, size_t memory_len, const s
     put32(at, tag);
     for (uint32_t i = 0; i < 32; i++) {
         volatile uint8_t *byte = memory + page + model_byte_in_page(x->b, i);
-        if (planted() == BACK_VISITS && four(tag, i / 4) == 0)
-            *byte = *byte;
+        if (four(tag, i / 4) == 0)
+            visit(byte, tag, i);
         answer += (tag & ~taken) >> i & 1;
     }
     return answer;

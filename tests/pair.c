@@ -189,6 +189,18 @@ void pair_start(struct pair *pair, const uint8_t *state, const uint8_t *memory)
     pair->call = pair->whole = 0;
 }
 
+struct pair pair_of_fresh(uint32_t pages)
+{
+    struct pair pair;
+    uint8_t state[MODEL_STATE], *memory;
+    pair_make(&pair, pages);
+    memory = need(pair.memory_len);
+    model_fresh(state, sizeof state, pages);
+    pair_start(&pair, state, memory);
+    free(memory);
+    return pair;
+}
+
 /* ---- Comparing ---- */
 
 static void report_byte(const char *what, const uint8_t *library, const uint8_t *model, size_t from, size_t until, size_t front)
@@ -294,6 +306,12 @@ uint64_t pair_call_lengths(struct pair *pair, const struct call *call, size_t st
 uint64_t pair_call(struct pair *pair, const struct call *call)
 {
     return pair_call_lengths(pair, call, MODEL_STATE, pair->memory_len);
+}
+
+uint64_t pair_make_call(struct pair *pair, uint32_t op, uint32_t a, uint32_t b, uint32_t c, uint32_t d, uint32_t data)
+{
+    struct call call = {op, a, b, c, d, data};
+    return pair_call(pair, &call);
 }
 
 /* The functions beside panel_call: an answer that differs is reported by same_answer, bytes that differ as for a call. */

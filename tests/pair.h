@@ -61,8 +61,12 @@ void pair_free(struct pair *pair);
 void pair_start(struct pair *pair, const uint8_t *state, const uint8_t *memory);
 void pair_state(struct pair *pair, const uint8_t *state);
 
+/* A pair for a fresh chip of so many pages over memory of 0, started. */
+struct pair pair_of_fresh(uint32_t pages);
+
 /* One call on both sides; the answer that both gave. */
 uint64_t pair_call(struct pair *pair, const struct call *call);
+uint64_t pair_make_call(struct pair *pair, uint32_t op, uint32_t a, uint32_t b, uint32_t c, uint32_t d, uint32_t data);
 uint64_t pair_call_lengths(struct pair *pair, const struct call *call, size_t state_len, size_t memory_len);
 uint64_t pair_fresh(struct pair *pair, size_t state_len, uint32_t pages);
 uint64_t pair_scan_line(struct pair *pair, size_t state_len, size_t memory_len, uint32_t bank, uint32_t page, uint32_t line);
@@ -83,5 +87,7 @@ unsigned long tried_in_total(void);
 
 /* Zero bytes, or the program ends. */
 uint8_t *need(size_t bytes);
+
+#define COUNT(list) (sizeof(list) / sizeof *(list))
 
 #endif

@@ -36,7 +36,7 @@ void try_stored_scans(void);
 /* Which bytes a data write changes, as its value says: against data reads before it and after it. */
 void try_changed(void);
 
-/* Write-backs of each set of a block's words; and none of memory is visited for a word without a tag bit. */
+/* Write-backs of each set of a block's words; memory beside the words that have a tag bit is not visited. */
 void try_backs(void);
 
 /* Random calls, valid and invalid: library against model. */

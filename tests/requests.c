@@ -315,7 +315,7 @@ static void value_if_refused(void)
     fresh_with(0);
     keep();
     for (uint32_t op = PANEL_STATELESS_INITIAL; op <= PANEL_STATEFUL_WRITE; op++)
-        for (size_t i = 0; i < sizeof outside / sizeof *outside; i++)
+        for (size_t i = 0; i < COUNT(outside); i++)
             expect("refused", call(op, outside[i][0], outside[i][1], outside[i][2], outside[i][3], 0xFFFFFFFF),
                    UINT64_C(4) << 40);
     same_but_counter(0);
@@ -394,17 +394,15 @@ static void words_skipped(void)
     }
 }
 
-/* No word, and each set of words: answer, state and memory are those of a write-back that visits all 32 bytes. */
+/* None, all, and some words: answer, state and memory are those of a write-back that visits all 32 bytes. */
 static void backs_as_before(void)
 {
+    static const uint32_t tags[] = {0,          0xFFFFFFFF, 0x0000000F, 0xF0000000, 0x00F0000F, 0xF00000F0,
+                                    0x0F0F0F0F, 0xF0F0F0F0, 0x80000001, 0x00048000, 0x7FFFFFFF, 0xFFFFFFFE};
     for (uint32_t op = PANEL_MASKED_WRITE; op <= PANEL_UNMASKED_WRITE; op++) {
         fresh_to_write_back();
-        for (uint32_t words = 0; words < 256; words++) {
-            uint32_t tag_bits = 0;
-            for (uint32_t w = 0; w < 8; w++)
-                tag_bits |= (words >> w & 1) * UINT32_C(15) << 4 * w;
-            back_with(op, tag_bits);
-        }
+        for (size_t i = 0; i < COUNT(tags); i++)
+            back_with(op, tags[i]);
     }
 }
 

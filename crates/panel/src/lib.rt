@@ -18,17 +18,17 @@ ghost use Rattle.panel.specs.Packs.{freshPacked, lineOffset, pointValue,
 fn pack_done(value: u32, pass: bool, written: bool) -> u64
     ensures { λ r. ⌜ r ≡ packed (givenBack (Answer.Done value pass written)) ⌝ }
 {
-    let number = value as u64;
+    let low = value as u64;
     if pass {
         if written {
-            return number + 0x3_0000_0000;
+            return low + 0x3_0000_0000;
         }
-        return number + 0x1_0000_0000;
+        return low + 0x1_0000_0000;
     }
     if written {
-        return number + 0x2_0000_0000;
+        return low + 0x2_0000_0000;
     }
-    number
+    low
 }
 
 // A value, and a number in bits 47:40.
