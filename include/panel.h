@@ -35,9 +35,9 @@ extern "C" {
 #endif
 
 /* ---- Version: the major number is raised by each growth of the state block, and by all else that a caller must follow; the
- * minor one by what is added beside, or by what changes speed alone. A library whose block has another length refuses this header's with
- * PANEL_ILL_FORMED. Library 3.0 answers as this one does. Library 2.0 has a block of this length and takes it; its data writes
- * have value 0. ---- */
+ * minor one by what is added beside, or by what changes speed alone. A library whose block has another length refuses this
+ * header's with PANEL_ILL_FORMED. Library 3.0 answers as this one does. Library 2.0 has a block of this length and takes it; its
+ * data writes have value 0. ---- */
 
 #define PANEL_VERSION_MAJOR 3
 #define PANEL_VERSION_MINOR 1
