@@ -87,7 +87,7 @@ static void write_back(struct pair *pair, uint32_t op, uint32_t bank, uint32_t b
             wrong_at(pair, &back, "a byte of the block", page[model_byte_in_page(block, i)], written_byte(op, slot, tag, i));
 }
 
-/* Bank, block and slot go round by numbers that have nothing in common with 256, so that every set comes with all of them. */
+/* Bank, block and slot go round by numbers that have nothing in common with 256: every word is tagged in each of them. */
 static void each_set(struct pair *pair)
 {
     static const uint32_t patterns[] = {0xFFFFFFFF, 0x11111111, 0x22222222, 0x44444444, 0x88888888, 0xEEEEEEEE,
