@@ -1,5 +1,7 @@
 // A host of one chip, with one page to a bank: it loads a block into a slot, writes a word there, writes the block back, shows the scan line on
 // which that word stands, and puts its first bytes out to the display. docs/HOSTS.md explains it.
+#![tactic(auto)]
+
 ghost use Rattle.std.specs.Prelude.{◌≡◌};
 ghost use Rattle.chip.specs.Answers.{given_back};
 ghost use Rattle.chip.specs.Calls.{call_given, chip_of, memory_of, fresh_given, fresh_chip};

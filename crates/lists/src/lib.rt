@@ -1,5 +1,7 @@
 // Numbers of 16 and of 32 bits in bytes, little endian. The definitions are specs/Words.antt.
 // Byte accesses side by side become one access of the machine.
+#![tactic(auto)]
+
 ghost use Rattle.std.specs.Prelude.{◌≡◌, ◌+◌, ◌*◌, ◌^◌, ◌<◌, length};
 ghost use Rattle.lists.specs.Words.{half_at, put_half, word_at, put_word};
 

@@ -1,12 +1,12 @@
 -- Where no number applies each test failed; what is given of a number, and of an answer; and what a test in code tells. Assumes nothing.
 use mathlib.Core.Path.{◌≡◌, refl, sym, ap, ◌∙◌}
-use mathlib.Core.Bool.{Bool, true, false, not, ◌&&◌, false≢true}
+use mathlib.Core.Bool.{Bool, true, false, ◌&&◌, false≢true}
 use mathlib.Core.List.{List, ◌∷◌}
 use mathlib.Core.Logic.{◌≢◌}
 use Prim.Native.Nat.{ℕ, zero, suc}
 use native.Mathlib.Omega.{arith}
 use lib.Dec.{eqb}
-use borrow.Author.Tests.{not-true, not-false, eq-eqb, ne_eqb}
+use borrow.Author.Tests.{eq-eqb, ne_eqb}
 use Rattle.numbers.specs.Numbers.{first, when_done}
 
 -- the first test failed, and so did the rest
@@ -32,11 +32,11 @@ given_refused zero x y ne = absurd (ne refl)
 given_refused (suc number) x y ne = refl
 
 -- code asks `if !test(..)`, where the test's answer is t: past it t holds, and in its branch t fails
-pub test_holds : {answer t : Bool} → answer ≡ t → not answer ≡ false → t ≡ true
-test_holds e left = sym e ∙ not-false _ left
+pub test_holds : {answer t : Bool} → answer ≡ t → answer ≡ true → t ≡ true
+test_holds e left = sym e ∙ left
 
-pub test_fails : {answer t : Bool} → answer ≡ t → not answer ≡ true → t ≡ false
-test_fails e taken = sym e ∙ not-true _ taken
+pub test_fails : {answer t : Bool} → answer ≡ t → answer ≡ false → t ≡ false
+test_fails e taken = sym e ∙ taken
 
 -- code asks whether a result, which is x, is k
 pub equal : {r x k : ℕ} → r ≡ x → r ≡ k → eqb x k ≡ true

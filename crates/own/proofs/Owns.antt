@@ -114,15 +114,15 @@ module _ (s : List ℕ) (x : Call) (o : Operation) (unused : List ℕ) (r : row 
 module _ (s : List ℕ) (x : Call) {o : Operation} {unused : List ℕ} (r : row x ≡ (o, unused)) where
   -- `fits` is what the code's test of the operands answers
   module _ {fits : Bool} (told : fits ≡ (in_range slots (decode_control s).pages o && all_zero unused)) where
-    pub operand_outside : not fits ≡ true → Unmoved s x 4
+    pub operand_outside : fits ≡ false → Unmoved s x 4
     operand_outside taken = refused s x o unused r (outside (decode_control s) o unused (test_fails told taken))
 
     -- the same, of a call that has no memory
-    pub operands_refused : not fits ≡ true → (numbered 4 ≡ own_given s x) × ((memory : List ℕ) → s ≡ own_block s memory x)
+    pub operands_refused : fits ≡ false → (numbered 4 ≡ own_given s x) × ((memory : List ℕ) → s ≡ own_block s memory x)
     operands_refused taken = let left = operand_outside taken in (left.0, left.1)
 
     -- `page` is what the code reads of the bank
-    module _ (left : not fits ≡ false) {page : ℕ} (read : page ≡ open_page (decode_control s).banks x.a) where
+    module _ (left : fits ≡ true) {page : ℕ} (read : page ≡ open_page (decode_control s).banks x.a) where
       -- an operation on an open bank: 3 to 6
       module _ (asked : asks (decode_control s) o ≡ (7, is_closed (decode_control s).banks x.a) ∷ []) where
         pub closed_refused : page ≡ 65535 → Unmoved s x 7
@@ -155,12 +155,12 @@ pub as_stored : {t u : List ℕ} {chip : Chip} → t ≡ u → Stores u chip →
 as_stored e stored = record { sized = stored.sized; is = e ∙ stored.is }
 
 -- 4 to 6: past the operands' test bank, block and slot are in range
-pub block_bounds : (x : Call) {fits : Bool} → fits ≡ (ltb x.a 4 && ltb x.b 40 && ltb x.c 8 && all_zero (x.d ∷ x.given ∷ [])) → not fits ≡ false
+pub block_bounds : (x : Call) {fits : Bool} → fits ≡ (ltb x.a 4 && ltb x.b 40 && ltb x.c 8 && all_zero (x.d ∷ x.given ∷ [])) → fits ≡ true
     → (x.a < 4) × (x.b < 40) × (x.c < 8)
 block_bounds x told left = block_range 8 0 x.a x.b x.c (and_left _ _ (test_holds told left))
 
 -- 1 and 3: bank and page are
-pub page_bounds : (P : ℕ) (x : Call) {fits : Bool} → fits ≡ (ltb x.a 4 && ltb x.b P && all_zero (x.c ∷ x.d ∷ x.given ∷ [])) → not fits ≡ false
+pub page_bounds : (P : ℕ) (x : Call) {fits : Bool} → fits ≡ (ltb x.a 4 && ltb x.b P && all_zero (x.c ∷ x.d ∷ x.given ∷ [])) → fits ≡ true
     → (x.a < 4) × (x.b < P)
 page_bounds P x told left = page_range 8 P x.a x.b (and_left _ _ (test_holds told left))
 

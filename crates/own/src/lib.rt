@@ -1,4 +1,6 @@
 // What every call's code stands on: its operands' ranges, and the end of a call that is done.
+#![tactic(auto)]
+
 ghost use Rattle.std.specs.Prelude.{◌≡◌};
 ghost use Rattle.chip.specs.Answers.{done_with, given_back};
 ghost use Rattle.block.specs.Block.{IsBlock, ticked_in};

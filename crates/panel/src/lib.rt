@@ -1,4 +1,6 @@
 // The door for C callers: numbers and byte buffers in, one 64-bit number out. include/panel.h declares these functions.
+#![tactic(auto)]
+
 ghost use Rattle.std.specs.Prelude.{◌≡◌, ◌<◌, length};
 ghost use Rattle.columns.specs.Columns.{columns_left};
 ghost use Rattle.chip.specs.Answers.{valued, given_back, packed};

@@ -1,5 +1,7 @@
 // The small program: reads lines "op a b c d data", makes each call on a fresh chip of two pages a bank, and prints number, value, pass, written.
 // What is printed for which input is proved of session::run and session::close; here is only the reading and writing.
+#![tactic(auto)]
+
 mod reply;
 mod session;
 

@@ -1,5 +1,7 @@
 // Compares the raster rule with the databook's Table 3.16, for all sixteen codes, and writes a line for each:
 // the code, its name as a GC function of the X Window System, the databook's formula, and whether they agree.
+#![tactic(auto)]
+
 ghost use Rattle.std.specs.Prelude.{◌<◌};
 
 // The databook's formula of a code, on whole words.

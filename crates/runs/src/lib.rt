@@ -1,5 +1,7 @@
 // A list of calls over a chip and the memory lent to it, and what is told of each. The definitions are specs/Runs.antt; demand 3 for what a run
 // tells and leaves is specs/Drawn.antt, and for calls through the C door specs/AtTheDoor.antt.
+#![tactic(auto)]
+
 ghost use Rattle.std.specs.Prelude.{◌≡◌, [], ◌∷◌, ◌+◌, ◌≤◌, length};
 ghost use Rattle.std.proofs.lemmas.List.Edits.{sets};
 ghost use Rattle.chip.specs.Answers.{numbered, given_back};
