@@ -6,14 +6,14 @@ ghost use Rattle.lines.specs.ByByte.{holding_none, started, spoilt, pushed, afte
 use chip::Call;
 
 // What a line is: six numbers, or number 9. Its number and its call are parsed_given of specs/Lines.antt.
-#[derive(Drop)]
+#[derive(Clone, Copy)]
 pub enum Parsed {
     Read(Call),
     NotALine,
 }
 
 // A line as far as it is read.
-#[derive(Drop)]
+#[derive(Clone, Copy)]
 pub struct Reader {
     // it has a byte
     pub begun: bool,
