@@ -1,0 +1,20 @@
+-- `calls::acts::operate`: 10 and 11 are the stateful write by its line; any other number is neither, which `other` asks. Assumes nothing.
+use mathlib.Core.Logic.{◌⊎◌, inl, inr}
+use mathlib.Core.Path.{refl}
+use Prim.Native.Nat.{ℕ, ◌<◌, ◌≤◌}
+use native.Mathlib.Omega.{arith}
+use borrow.Author.Rules.{rules}
+use Rattle.chip.specs.Effects.{effect, memory_after}
+use Rattle.own.proofs.OwnLines.{row_stateful}
+use Rattle.calls.proofs.ByLine.{Ready, beside_memory}
+use Rattle.calls.proofs.acts.operate.Goals as goal
+
+pub returns-in-10 : goal.returns-in-10
+unfolding effect memory_after
+returns-in-10 c =
+    let ready : Ready c.args.s.now c.args.memory.now
+    = record { bytes = λ a. omega (arith, c.slice_known-1.given a); well = c.requires.1; sized = c.requires.2 } in
+    let low : 10 ≤ c.args.x.op = omega arith in
+    let high : c.args.x.op ≤ 11 = omega arith in
+    let own = c.stateful_write.ensures in
+    beside_memory ready c.args.x (row_stateful _ low high) refl (omega (arith, low)) (omega (arith, high)) own.0 (own.1 _)
