@@ -133,7 +133,7 @@ pub fn draw(
     numbers: &[u32],
     told: &mut [u32],
 ) -> Answered
-    ensures answer_value { (given_back result.answer ≡ numbered (draw_number pages numbers.now told.old)) × (left result.chip memory.new told.new ≡ draw_left pages numbers.now (left chip memory.old told.old)) }
+    ensures answered { (given_back result.answer ≡ numbered (draw_number pages numbers.now told.old)) × (left result.chip memory.new told.new ≡ draw_left pages numbers.now (left chip memory.old told.old)) }
     ensures picture { IsDone (given_back result.answer) → IsPicture pages memory.old (calls_in numbers.now) told.new memory.new }
 {
     if !(pages_fit(pages) & room_for(numbers, told)) {
