@@ -2,33 +2,29 @@
 // which that word stands, and puts its first bytes out to the display. docs/HOSTS.md explains it.
 #![tactic(auto)]
 
-ghost use Rattle.std.specs.Prelude.{◌≡◌};
+ghost use Rattle.std.specs.Prelude.{◌≡◌, IfOk};
 ghost use Rattle.chip.specs.Answers.{given_back};
 ghost use Rattle.chip.specs.Calls.{call_given, chip_of, memory_of, fresh_given, fresh_chip};
 
 use block::places;
 use chip::{Answer, Answered, Call, Chip, Control, Scan};
+use std::io;
 
 // Says what a call answered. The answer is taken apart before its value is read.
-fn tell(name: &[u8], answer: Answer) {
-    io::write_all(1, name);
+fn tell(rt: &impl Print, name: &str, answer: Answer) -> io::Result<()> {
     let Answer::Done {
         value,
         pass: _,
         written: _,
     } = answer
     else {
-        io::write_all(1, b": refused with ");
-        io::print_decimal(1, chip::answers::number(answer) as u64);
-        io::write_all(1, b"\n");
-        return;
+        let number = chip::answers::number(answer);
+        return println!(rt; "{name}: refused with {number}");
     };
-    io::write_all(1, b": done, value ");
-    io::print_decimal(1, value as u64);
-    io::write_all(1, b"\n");
+    println!(rt; "{name}: done, value {value}")
 }
 
-// Lends a chip to the call that makes it fresh. This function and the next have a reference to a struct, and so are proved by a walk by hand.
+// Lends a chip to the call that makes it fresh.
 fn freshened(chip: Chip, pages: u32) -> Answered
     ensures { (given_back result.answer ≡ fresh_given pages) × (result.chip ≡ fresh_chip chip pages) }
 {
@@ -52,30 +48,32 @@ fn advanced(chip: Chip, memory: &mut [u8], x: Call) -> Answered
     }
 }
 
-// Makes a call, says what it answered, and gives back the chip that it leaves.
-fn step(name: &[u8], chip: Chip, memory: &mut [u8], x: Call) -> Chip
-    ensures { (result ≡ chip_of chip memory.old x) × (memory.new ≡ memory_of chip memory.old x) }
+// Makes a call, says what it answered, and gives back the chip that it leaves. Where it cannot be said, memory is what the call leaves all the same.
+fn step(rt: &impl Print, name: &str, chip: Chip, memory: &mut [u8], x: Call) -> io::Result<Chip>
+    ensures chip { IfOk result (λ after. after ≡ chip_of chip memory.old x) }
+    ensures memory { memory.new ≡ memory_of chip memory.old x }
 {
     let done = advanced(chip, memory, x);
-    let answer = done.answer;
-    tell(name, answer);
-    done.chip
+    tell(rt, name, done.answer)?;
+    Ok(done.chip)
 }
 
 // Shows the first word of a scan line, or says with which number it is refused.
-fn show(control: Control, memory: &[u8], bank: u32, page: u32, line: u32) {
+fn show(
+    rt: &impl Print,
+    control: Control,
+    memory: &[u8],
+    bank: u32,
+    page: u32,
+    line: u32,
+) -> io::Result<()> {
     let shown = hosts::display::scan_line(control, memory, bank, page, line);
     if shown.len() < 4 {
-        io::write_all(1, b"scan line: refused with ");
         let number = hosts::display::scan_line_number(control, memory.len(), bank, page, line);
-        io::print_decimal(1, number as u64);
-        io::write_all(1, b"\n");
-        return;
+        return println!(rt; "scan line: refused with {number}");
     }
-    io::write_all(1, b"scan line: begins with ");
     let word = bits::join(shown[0], shown[1], shown[2], shown[3]);
-    io::print_decimal(1, word as u64);
-    io::write_all(1, b"\n");
+    println!(rt; "scan line: begins with {word}")
 }
 
 fn call(op: u32, a: u32, b: u32, c: u32, d: u32, given: u32) -> Call {
@@ -90,32 +88,30 @@ fn call(op: u32, a: u32, b: u32, c: u32, d: u32, given: u32) -> Call {
 }
 
 // Opens page 0 of bank 0 and loads its block 0 into slot 0.
-fn load(fresh: Chip, memory: &mut [u8]) -> Chip {
-    let opened = step(b"access page", fresh, memory, call(1, 0, 0, 0, 0, 0));
-    step(b"read block", opened, memory, call(4, 0, 0, 0, 0, 0))
+fn load(rt: &impl Print, fresh: Chip, memory: &mut [u8]) -> io::Result<Chip> {
+    let opened = step(rt, "access page", fresh, memory, call(1, 0, 0, 0, 0, 0))?;
+    step(rt, "read block", opened, memory, call(4, 0, 0, 0, 0, 0))
 }
 
 // Writes a word into slot 0, all four of its bytes; made once more, the write changes none.
-fn draw(loaded: Chip, memory: &mut [u8]) -> Chip {
+fn draw(rt: &impl Print, loaded: Chip, memory: &mut [u8]) -> io::Result<Chip> {
     let write = call(11, 0, 0, 15, 3, 0x0102_0304);
-    let drawn = step(b"data write", loaded, memory, write);
-    step(b"data write, again", drawn, memory, write)
+    let drawn = step(rt, "data write", loaded, memory, write)?;
+    step(rt, "data write, again", drawn, memory, write)
 }
 
 // A word that waits in the pixel buffer is not on the scan line: it is there after the write-back.
-fn write_back(drawn: Chip, memory: &mut [u8]) -> Chip {
-    let before = drawn.control;
-    show(before, memory, 0, 0, 0);
-    let back = step(b"write block", drawn, memory, call(5, 0, 0, 0, 0, 0));
-    let after = back.control;
-    show(after, memory, 0, 0, 0);
-    back
+fn write_back(rt: &impl Print, drawn: Chip, memory: &mut [u8]) -> io::Result<Chip> {
+    show(rt, drawn.control, memory, 0, 0, 0)?;
+    let back = step(rt, "write block", drawn, memory, call(5, 0, 0, 0, 0, 0))?;
+    show(rt, back.control, memory, 0, 0, 0)?;
+    Ok(back)
 }
 
 // Transfers the scan line into video buffer 0, which is selected, and puts out its first two bytes.
-fn scan_out(back: Chip, memory: &mut [u8]) -> Chip {
-    let filled = step(b"video transfer", back, memory, call(16, 0, 0, 0, 0, 0));
-    step(b"video clock", filled, memory, call(17, 0, 0, 0, 0, 0))
+fn scan_out(rt: &impl Print, back: Chip, memory: &mut [u8]) -> io::Result<Chip> {
+    let filled = step(rt, "video transfer", back, memory, call(16, 0, 0, 0, 0, 0))?;
+    step(rt, "video clock", filled, memory, call(17, 0, 0, 0, 0, 0))
 }
 
 // The block as the base kept it: 348 bytes, which end where the video buffers start, and its header says so.
@@ -127,26 +123,23 @@ fn as_the_base_kept_it(state: [u8; places::BLOCK_BYTES]) -> [u8; places::VIDEO_A
 }
 
 // Keeps the chip as a state block, as before a host stops, and reads it back over a chip that is not well formed. An older block is read too.
-fn kept(chip: Chip) -> Chip {
+fn kept(rt: &impl Print, chip: Chip) -> io::Result<Chip> {
     let mut state = [0u8; places::BLOCK_BYTES];
-    let answer = hosts::kept::keep(chip, &mut state);
-    tell(b"keep", answer);
+    tell(rt, "keep", hosts::kept::keep(chip, &mut state))?;
     let back = hosts::kept::read(ill_formed(), &state);
-    let answer = back.answer;
-    tell(b"read", answer);
+    tell(rt, "read", back.answer)?;
     let base = as_the_base_kept_it(state);
     let older = hosts::kept::read(ill_formed(), &base);
-    let answer = older.answer;
-    tell(b"read of 348 bytes", answer);
-    back.chip
+    tell(rt, "read of 348 bytes", older.answer)?;
+    Ok(back.chip)
 }
 
 // Page 1 is not below P, the bank is open already, and the selected video buffer is not yet put out whole.
-fn be_refused(chip: Chip, memory: &mut [u8]) {
-    let control = chip.control;
-    show(control, memory, 0, 1, 0);
-    step(b"access page", chip, memory, call(1, 0, 0, 0, 0, 0));
-    step(b"video transfer", chip, memory, call(16, 0, 0, 0, 0, 0));
+fn be_refused(rt: &impl Print, chip: Chip, memory: &mut [u8]) -> io::Result<()> {
+    show(rt, chip.control, memory, 0, 1, 0)?;
+    step(rt, "access page", chip, memory, call(1, 0, 0, 0, 0, 0))?;
+    step(rt, "video transfer", chip, memory, call(16, 0, 0, 0, 0, 0))?;
+    Ok(())
 }
 
 // A chip of no pages, which is not well formed.
@@ -171,15 +164,13 @@ fn ill_formed() -> Chip {
 }
 
 // A chip that is not well formed is made fresh all the same.
-fn main() {
+fn main(rt: HostRuntime) -> io::Result<()> {
     let mut memory = [0u8; 5120];
     let made = freshened(ill_formed(), 1);
-    let answer = made.answer;
-    tell(b"fresh chip", answer);
-    let fresh = made.chip;
-    let loaded = load(fresh, &mut memory);
-    let drawn = draw(loaded, &mut memory);
-    let back = write_back(drawn, &mut memory);
-    let scanned = scan_out(back, &mut memory);
-    be_refused(kept(scanned), &mut memory);
+    tell(&rt, "fresh chip", made.answer)?;
+    let loaded = load(&rt, made.chip, &mut memory)?;
+    let drawn = draw(&rt, loaded, &mut memory)?;
+    let back = write_back(&rt, drawn, &mut memory)?;
+    let scanned = scan_out(&rt, back, &mut memory)?;
+    be_refused(&rt, kept(&rt, scanned)?, &mut memory)
 }

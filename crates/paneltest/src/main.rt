@@ -5,8 +5,8 @@
 mod reply;
 mod session;
 
-use libc::{STDIN_FILENO, STDOUT_FILENO};
 use session::Session;
+use std::io::{Read, Write};
 
 // P = 2.
 const MEMORY: usize = 4 * 2 * 1280;
@@ -24,43 +24,47 @@ struct Turn {
 }
 
 // Reads once and writes what that gives. An input that ends or fails ends the last line; an output that is full or closed ends the run.
-fn take_turn(session: Session, memory: &mut [u8]) -> Turn {
+fn take_turn(
+    reader: &mut impl Read,
+    writer: &mut impl Write,
+    session: Session,
+    memory: &mut [u8],
+) -> Turn {
     let mut input = [0u8; PIECE];
     let mut output = [0u8; ROOM];
-    let got = libc::read(STDIN_FILENO, &mut input);
-    let n = io::count(got, &input);
+    let n = reader.read(&mut input).unwrap_or(0);
     if n == 0 {
         let last = session::close(session, memory, &mut output);
         let at = last.at;
-        io::write_all(STDOUT_FILENO, &output[..at]);
-        let carried = last.session;
+        writer.write_all(&output[..at]).is_ok();
         return Turn {
-            session: carried,
+            session: last.session,
             more: false,
         };
     }
     let ran = session::run(session, memory, &input[..n], &mut output);
     let at = ran.at;
-    let is_written = io::write_all(STDOUT_FILENO, &output[..at]);
-    let carried = ran.session;
+    let is_written = writer.write_all(&output[..at]).is_ok();
     Turn {
-        session: carried,
+        session: ran.session,
         more: is_written,
     }
 }
 
 // A proved loop ends, and nothing says that the input does: so the turns are counted, down from a number that no run uses up.
-fn main() {
+fn main(rt: HostRuntime) {
+    let mut reader = rt.stdin();
+    let mut writer = rt.stdout();
     let heading = lines::printer::heading();
     let mut now = Turn {
         session: session::begin(),
-        more: io::write_all(STDOUT_FILENO, &heading),
+        more: writer.write_all(&heading).is_ok(),
     };
     let mut memory = [0u8; MEMORY];
     let mut turns = u64::MAX;
     while turns > 0 && now.more {
         let carried = now.session;
-        now = take_turn(carried, &mut memory);
+        now = take_turn(&mut reader, &mut writer, carried, &mut memory);
         turns -= 1;
     }
 }

@@ -4,6 +4,8 @@
 
 ghost use Rattle.std.specs.Prelude.{◌<◌};
 
+use std::io;
+
 // The databook's formula of a code, on whole words.
 fn formula(code: u32, new: u32, old: u32) -> u32 {
     match code {
@@ -46,36 +48,32 @@ fn agrees_everywhere(code: u32) -> bool
 }
 
 // Writes the line of a code.
-fn compare(code: u32, name: &[u8], databook: &[u8])
+fn compare(rt: &impl Print, code: u32, name: &str, databook: &str) -> io::Result<()>
     requires { code < 16 }
 {
-    io::print_decimal(1, code as u64);
-    io::write_all(1, b" ");
-    io::write_all(1, name);
-    io::write_all(1, b": ");
-    io::write_all(1, databook);
-    if agrees_everywhere(code) {
-        io::write_all(1, b": agree\n");
+    let verdict = if agrees_everywhere(code) {
+        "agree"
     } else {
-        io::write_all(1, b": DIFFERS\n");
-    }
+        "DIFFERS"
+    };
+    println!(rt; "{code} {name}: {databook}: {verdict}")
 }
 
-fn main() {
-    compare(0, b"clear", b"All bits zero");
-    compare(1, b"and", b"NEW and OLD");
-    compare(2, b"andReverse", b"NEW and ~OLD");
-    compare(3, b"copy", b"NEW");
-    compare(4, b"andInverted", b"~NEW and OLD");
-    compare(5, b"noop", b"OLD");
-    compare(6, b"xor", b"NEW xor OLD");
-    compare(7, b"or", b"NEW or OLD");
-    compare(8, b"nor", b"~NEW and ~OLD");
-    compare(9, b"equiv", b"~NEW xor OLD");
-    compare(10, b"invert", b"~OLD");
-    compare(11, b"orReverse", b"NEW or ~OLD");
-    compare(12, b"copyInverted", b"~NEW");
-    compare(13, b"orInverted", b"~NEW or OLD");
-    compare(14, b"nand", b"~NEW or ~OLD");
-    compare(15, b"set", b"All bits one");
+fn main(rt: HostRuntime) -> io::Result<()> {
+    compare(&rt, 0, "clear", "All bits zero")?;
+    compare(&rt, 1, "and", "NEW and OLD")?;
+    compare(&rt, 2, "andReverse", "NEW and ~OLD")?;
+    compare(&rt, 3, "copy", "NEW")?;
+    compare(&rt, 4, "andInverted", "~NEW and OLD")?;
+    compare(&rt, 5, "noop", "OLD")?;
+    compare(&rt, 6, "xor", "NEW xor OLD")?;
+    compare(&rt, 7, "or", "NEW or OLD")?;
+    compare(&rt, 8, "nor", "~NEW and ~OLD")?;
+    compare(&rt, 9, "equiv", "~NEW xor OLD")?;
+    compare(&rt, 10, "invert", "~OLD")?;
+    compare(&rt, 11, "orReverse", "NEW or ~OLD")?;
+    compare(&rt, 12, "copyInverted", "~NEW")?;
+    compare(&rt, 13, "orInverted", "~NEW or OLD")?;
+    compare(&rt, 14, "nand", "~NEW or ~OLD")?;
+    compare(&rt, 15, "set", "All bits one")
 }

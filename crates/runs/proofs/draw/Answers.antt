@@ -26,21 +26,21 @@ returns-then-not-pages_fit-room_for c =
     })
 
 -- past the test P is in its range, and there is room
-drawable : {fits room : Bool} {pages : ℕ} {numbers told : List ℕ} → fits ≡ pages_fit pages → room ≡ room_for numbers told → (fits && room) ≡ true
+drawable : {fits room : Bool} (pages : ℕ) (numbers told : List ℕ) → fits ≡ pages_fit pages → room ≡ room_for numbers told → (fits && room) ≡ true
     → (pages_fit pages && room_for numbers told) ≡ true
-drawable fits room passed = test_holds (ap₂ (λ (a b : Bool). a && b) fits room) passed
+drawable pages numbers told fits room passed = test_holds (ap₂ (λ (a b : Bool). a && b) fits room) passed
 
 pub returns : goal.returns
 unfolding draw_number draw_left run_number run_left first
 returns c =
-    let both = drawable c.pages_fit.ensures c.room_for.ensures c.if-not-pages_fit-room_for.false in
+    let both = drawable _ _ _ c.pages_fit.ensures c.room_for.ensures c.if-not-pages_fit-room_for.false in
     let own = rw (c.fresh.ensures, and_right (pages_fit _) _ both) at c.run.ensures in
     rw both (record { answered = own; picture = λ done. is_picture _ _ _ _ (λ a. omega (arith, c.slice_known-1.given a)) own.1 })
 
 pub overflow_cast-pages : goal.overflow_cast-pages
 overflow_cast-pages c =
-    let between = pages_between _ (and_left _ (room_for _ _) (drawable c.pages_fit.ensures c.room_for.ensures c.if-not-pages_fit-room_for.false)) in
+    let between = pages_between _ (and_left _ (room_for _ _) (drawable _ _ _ c.pages_fit.ensures c.room_for.ensures c.if-not-pages_fit-room_for.false)) in
     omega (arith, between.1)
 
 pub fresh-requires : goal.fresh-requires
-fresh-requires c = pages_between _ (and_left _ (room_for _ _) (drawable c.pages_fit.ensures c.room_for.ensures c.if-not-pages_fit-room_for.false))
+fresh-requires c = pages_between _ (and_left _ (room_for _ _) (drawable _ _ _ c.pages_fit.ensures c.room_for.ensures c.if-not-pages_fit-room_for.false))
