@@ -16,7 +16,7 @@ use Rattle.pixel.specs.Registers.{register, fresh_registers}
 use Rattle.pixel.specs.Writes.{used, into_slot, into_word, hits, new_byte, outcome_of}
 use Rattle.pixel.proofs.Outcomes.{byte_outcome, taken_lt, into_slot_lt, into_word_lt}
 use Rattle.numbers.specs.Numbers.{first}
-use Rattle.numbers.proofs.Tests.{and_left, test_holds}
+use Rattle.numbers.proofs.Tests.{and_left}
 use Rattle.lists.specs.Words.{Bytes, put_word}
 use Rattle.bank.specs.Work.{in_slot}
 use Rattle.lists.proofs.Words.{word_at_once, part_bytes}
@@ -158,10 +158,10 @@ module _ (s : List ℕ) (bytes : Bytes s) (well : well_formed_block s ≡ true) 
       )
 
 -- a stateless write goes where its operands say
-pub stateless_slot : (registers : List ℕ) (initial : Bool) (x : Call) → into_slot 8 registers (asked true initial x) ≡ x.a
+pub stateless_slot : (held : List ℕ) (initial : Bool) (x : Call) → into_slot 8 held (asked true initial x) ≡ x.a
 unfolding into_slot used register fresh_registers bit
-stateless_slot registers initial x = refl
+stateless_slot held initial x = refl
 
-pub stateless_word : (registers : List ℕ) (initial : Bool) (x : Call) → into_word registers (asked true initial x) ≡ x.b
+pub stateless_word : (held : List ℕ) (initial : Bool) (x : Call) → into_word held (asked true initial x) ≡ x.b
 unfolding into_word used register fresh_registers bit
-stateless_word registers initial x = refl
+stateless_word held initial x = refl

@@ -1,9 +1,8 @@
 -- `bank::load`, by the loop's invariant: after w turns the slot has the block's first w words. Assumes nothing.
 use mathlib.Core.Path.{◌≡◌, refl, ap, ◌∙◌}
-use Prim.Native.Nat.{ℕ, ◌+◌, ◌-◌, ◌*◌}
+use Prim.Native.Nat.{ℕ, ◌+◌, ◌*◌}
 use native.Mathlib.Omega.{arith}
 use lib.ListN.{length}
-use Rattle.layout.specs.Memory.{in_page}
 use Rattle.lists.specs.Update.{update}
 use Rattle.bank.specs.Work.{loaded}
 use Rattle.lists.proofs.Words.{length_put_word}

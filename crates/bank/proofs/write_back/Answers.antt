@@ -1,7 +1,7 @@
 -- `bank::write_back`, by the loop's invariant: after n turns the part is written back at the block's first n words, and is bytes.
 -- A turn puts its word, or skips it where its four tag bits are 0. Assumes nothing.
 use mathlib.Core.Path.{◌≡◌, refl, ap, ◌∙◌}
-use Prim.Native.Nat.{ℕ, ◌+◌, ◌-◌, ◌*◌, ◌≤◌, ◌<◌}
+use Prim.Native.Nat.{ℕ, ◌+◌, ◌*◌, ◌≤◌, ◌<◌}
 use native.Mathlib.Omega.{arith}
 use lib.ListN.{length}
 use Rattle.lists.specs.Words.{put_word}
@@ -45,7 +45,7 @@ loop-word-preserved c =
     let a = c.args in
     let counted : turn.word + 1 ≤ 8 = omega arith in
     elim c.if-tag-first_bit-ne0.branch [
-      then-tag-first_bit-ne0 w ↦
+      | then-tag-first_bit-ne0 w ↦
           let stored : c.if-tag-first_bit-ne0.part ≡ put_word _ w.merge.result turn.part = w.part-is ∙ w.put_word.ensures in (
             counted,
             ap length stored ∙ length_put_word _ _ _ ∙ turn.invariant.1,
@@ -56,7 +56,7 @@ loop-word-preserved c =
                 a.mask a.tag a.pixels.now a.part.now turn.part turn.invariant.2 (λ i. omega (arith, c.type_inv.pixels i)) turn.invariant.3
                 w.merge.result (rw (w.merge.ensures, w.word_at.ensures, w.word_at-new.ensures)),
           )
-    | else-tag-first_bit-ne0 w ↦ (
+      | else-tag-first_bit-ne0 w ↦ (
         counted,
         ap length w.part-is ∙ turn.invariant.1,
         λ i. rw w.part-is (turn.invariant.2 i),

@@ -1,6 +1,5 @@
 -- `stored::put_halves`, by the loop's invariant: the first i numbers are stored, by `Put`. Assumes nothing.
 use mathlib.Core.Path.{refl, ◌∙◌}
-use Prim.Native.Nat.{◌-◌}
 use native.Mathlib.Omega.{arith}
 use Rattle.lists.specs.Words.{as_bytes, halves}
 use Rattle.lists.proofs.RowStores.{half_turn}

@@ -1,6 +1,5 @@
 -- `stored::put_words`, by the loop's invariant: the first i numbers are stored, by `Put`. Assumes nothing.
 use mathlib.Core.Path.{refl, ◌∙◌}
-use Prim.Native.Nat.{◌-◌}
 use native.Mathlib.Omega.{arith}
 use Rattle.lists.specs.Words.{as_bytes, words}
 use Rattle.lists.proofs.RowStores.{word_turn}

@@ -1,5 +1,5 @@
 -- `block::form::registers_fit`: registers 1 to 4 hold any bits. Assumes nothing.
-use Rattle.std.proofs.Common.{◌≡◌, ℕ, ◌^◌, ◌<◌, List, ◌&&◌, get_or, sym, ap, ◌∙◌, arith}
+use Rattle.std.proofs.Common.{◌≡◌, ℕ, List, ◌&&◌, get_or, sym, ap, ◌∙◌, arith}
 use Rattle.bits.specs.Bits.{every, within}
 use Rattle.pixel.specs.Registers.{register}
 use Rattle.numbers.proofs.Tests.{test_holds, test_fails}

@@ -1,6 +1,6 @@
 -- `buffer::writes::stateful_write`: its outcome and its destination are those of the block's registers. Assumes nothing.
-use mathlib.Core.Bool.{false, not}
-use mathlib.Core.Path.{refl, ap}
+use mathlib.Core.Bool.{false}
+use mathlib.Core.Path.{refl}
 use Prim.Native.Nat.{◌<◌}
 use native.Mathlib.Omega.{arith}
 use lib.Dec.{eqb}

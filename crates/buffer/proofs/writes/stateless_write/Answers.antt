@@ -1,5 +1,5 @@
 -- `buffer::writes::stateless_write`: its outcome is that of any registers, its destination that of its operands. Assumes nothing.
-use mathlib.Core.Bool.{true, not}
+use mathlib.Core.Bool.{true}
 use mathlib.Core.Path.{refl, sym, ap, ◌∙◌}
 use Prim.Native.Nat.{◌<◌}
 use native.Mathlib.Omega.{arith}

@@ -1,9 +1,7 @@
 -- `calls::acts::operate`: 10 and 11 are the stateful write by its line; any other number is neither, which `other` asks. Assumes nothing.
-use mathlib.Core.Logic.{◌⊎◌, inl, inr}
 use mathlib.Core.Path.{refl}
-use Prim.Native.Nat.{ℕ, ◌<◌, ◌≤◌}
+use Prim.Native.Nat.{◌≤◌}
 use native.Mathlib.Omega.{arith}
-use borrow.Author.Rules.{rules}
 use Rattle.chip.specs.Effects.{effect, memory_after}
 use Rattle.own.proofs.OwnLines.{row_stateful}
 use Rattle.calls.proofs.ByLine.{Ready, beside_memory}

@@ -1,5 +1,5 @@
 -- `lines::reader::finish`: the definition's own test. Assumes nothing.
-use Rattle.lines.specs.ByByte.{complete, ended}
+use Rattle.lines.specs.ByByte.{ended}
 use Rattle.lines.proofs.reader.finish.Goals as goal
 
 pub returns-then-not-complete : goal.returns-then-not-complete

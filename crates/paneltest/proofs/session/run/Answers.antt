@@ -1,7 +1,7 @@
 -- `paneltest::session::run`, by the loop's invariant: what is left after i bytes is what the run over the first i leaves, and at most
 -- 44 bytes are printed for each. The measure is what is left of the input. Assumes nothing.
 use mathlib.Core.Path.{refl}
-use Prim.Native.Nat.{◌-◌, ◌<◌}
+use Prim.Native.Nat.{◌<◌}
 use native.Mathlib.Omega.{arith}
 use lib.ListN.{length, get_or}
 use lib.Seq.{take_all}
