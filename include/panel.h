@@ -20,7 +20,8 @@
  *   - Nobody else writes them while a call runs: no two threads use one chip at the same time.
  *   - Between calls the bytes stay as they are. Memory may be read at any time; what else may be done with it, and which calls
  *     lose no one's drawing, is in docs/DUTIES.md.
- *   - This header is read as C99 or later, or as C++98 or later with <stdint.h>, and linked on x86-64 Linux.
+ *   - This header is read as C99 or later, or as C++98 or later with <stdint.h>, and linked on x86-64 Linux;
+ *     the library is made for processors with popcnt (x86-64-v2).
  *
  * Every function answers one 64-bit number; panel_number, panel_value, panel_pass and panel_written take it apart. Look at
  * panel_number first: PANEL_DONE, or the reason of a refusal. A refused call has changed nothing, and its value is 0. */
