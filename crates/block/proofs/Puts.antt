@@ -54,13 +54,13 @@ module _ {s : List ℕ} {chip : Chip} (h : Stores s chip) where
 
   pub stores_scan_counter : (k : ℕ) → k < 2 ^ 16 → Stores (put_half scan_at k s) (under chip (with_scan c (record { counter = k; select = c.scan.select })))
   stores_scan_counter k hk = record {
-    sized = rescanned h.sized (hk, h.sized.scan_fits_lem.1);
+    sized = rescanned h.sized (hk, h.sized.scan_fits.1);
     is = ap (put_half scan_at k) h.is ∙ scan_counter_put chip h.sized k;
   }
 
   pub stores_scan_select : (k : ℕ) → k < 2 ^ 16 → Stores (put_half select_at k s) (under chip (with_scan c (record { counter = c.scan.counter; select = k })))
   stores_scan_select k hk = record {
-    sized = rescanned h.sized (h.sized.scan_fits_lem.0, hk);
+    sized = rescanned h.sized (h.sized.scan_fits.0, hk);
     is = ap (put_half select_at k) h.is ∙ scan_select_put chip h.sized k;
   }
 

@@ -59,7 +59,7 @@ module _ (chip : Chip) (z : Sized chip) where
   header_fits : (j : ℕ) → get_or (header c.pages) j 0 < 2 ^ 16
   unfolding header
   header_fits j = entry_holds (λ (x : ℕ). x < 2 ^ 16) (header c.pages) j 0 (lit< tt)
-      (z.pages_fit_lem, (lit< tt, (lit< tt, (lit< tt, (lit< tt, (lit< tt, (lit< tt, (lit< tt, tt))))))))
+      (z.pages_fit, (lit< tt, (lit< tt, (lit< tt, (lit< tt, (lit< tt, (lit< tt, (lit< tt, tt))))))))
 
   flags_fit : (j : ℕ) → get_or (flags c ∷ c.counter ∷ []) j 0 < 2 ^ 32
   unfolding flags
@@ -98,7 +98,7 @@ module _ (chip : Chip) (z : Sized chip) where
   scan_back : halves_at 2 (encode chip) scan_at ≡ scan_row c
   unfolding encode parts control_parts
   scan_back = halves_in 7 (parts chip) (lit< tt) (scan_row c) refl scan_at 2 (starts chip z).6 refl
-      (λ j. entry_holds (λ (x : ℕ). x < 2 ^ 16) (scan_row c) j 0 (lit< tt) (z.scan_fits_lem.0, (z.scan_fits_lem.1, tt)))
+      (λ j. entry_holds (λ (x : ℕ). x < 2 ^ 16) (scan_row c) j 0 (lit< tt) (z.scan_fits.0, (z.scan_fits.1, tt)))
 
   -- the first number of a row
   pages_half : half_at (encode chip) 0 ≡ c.pages
@@ -190,12 +190,12 @@ module _ (s : List ℕ) (bytes : Bytes s) where
   pub decoded_sized : IsBlock s → Sized (decode s)
   unfolding decode_control pixels_in video_in
   decoded_sized long = record {
-    pages_fit_lem = half_at_lt s 0 bytes;
+    pages_fit = half_at_lt s 0 bytes;
     banks = record { long = length_row_at 2 half_at 4 s banks_at; fit = halves_lt s bytes 4 banks_at };
     registers = record { long = length_row_at 4 word_at 7 s registers_at; fit = words_lt s bytes 7 registers_at };
     counter_fits = word_at_lt s counter_at bytes;
     tags = record { long = length_row_at 4 word_at 8 s tags_at; fit = words_lt s bytes 8 tags_at };
-    scan_fits_lem = (half_at_lt s scan_at bytes, half_at_lt s select_at bytes);
+    scan_fits = (half_at_lt s scan_at bytes, half_at_lt s select_at bytes);
     pixels_long = length-take-le pixel_bytes (drop pixels_at s) (omega (arith, length-drop pixels_at s, long));
     video_long = length-take-le video_bytes (drop video_at s) (omega (arith, length-drop video_at s, long));
   }

@@ -21,12 +21,12 @@ pub resized : {chip : Chip} → Sized chip → {banks registers tags : List ℕ}
     → Listed 4 (2 ^ 16) banks → Listed 7 (2 ^ 32) registers → counter < 2 ^ 32 → Listed 8 (2 ^ 32) tags
     → Sized (record { control = with_parts chip.control banks registers picking hit counter tags; pixels = chip.pixels; video = chip.video })
 resized z b r k t = record {
-  pages_fit_lem = z.pages_fit_lem;
+  pages_fit = z.pages_fit;
   banks = b;
   registers = r;
   counter_fits = k;
   tags = t;
-  scan_fits_lem = z.scan_fits_lem;
+  scan_fits = z.scan_fits;
   pixels_long = z.pixels_long;
   video_long = z.video_long;
 }
@@ -35,12 +35,12 @@ resized z b r k t = record {
 pub rescanned : {chip : Chip} → Sized chip → {v : Scan} → (v.counter < 2 ^ 16) × (v.select < 2 ^ 16)
     → Sized (record { control = with_scan chip.control v; pixels = chip.pixels; video = chip.video })
 rescanned z fits = record {
-  pages_fit_lem = z.pages_fit_lem;
+  pages_fit = z.pages_fit;
   banks = z.banks;
   registers = z.registers;
   counter_fits = z.counter_fits;
   tags = z.tags;
-  scan_fits_lem = fits;
+  scan_fits = fits;
   pixels_long = z.pixels_long;
   video_long = z.video_long;
 }
@@ -49,12 +49,12 @@ rescanned z fits = record {
 pub rebuffered : {chip : Chip} → Sized chip → {pixels video : List ℕ} → length pixels ≡ pixel_bytes → length video ≡ video_bytes
     → Sized (record { control = chip.control; pixels = pixels; video = video })
 rebuffered z p v = record {
-  pages_fit_lem = z.pages_fit_lem;
+  pages_fit = z.pages_fit;
   banks = z.banks;
   registers = z.registers;
   counter_fits = z.counter_fits;
   tags = z.tags;
-  scan_fits_lem = z.scan_fits_lem;
+  scan_fits = z.scan_fits;
   pixels_long = p;
   video_long = v;
 }

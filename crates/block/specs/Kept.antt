@@ -17,12 +17,12 @@ pub record Listed (n m : ℕ) (l : List ℕ) : Type 0 where
   pub fit : (j : ℕ) → slice_index l j < m
 
 pub record Sized (chip : Chip) : Type 0 where
-  pub pages_fit_lem : chip.control.pages < 2 ^ 16
+  pub pages_fit : chip.control.pages < 2 ^ 16
   pub banks : Listed 4 (2 ^ 16) chip.control.banks
   pub registers : Listed 7 (2 ^ 32) chip.control.registers
   pub counter_fits : chip.control.counter < 2 ^ 32
   pub tags : Listed 8 (2 ^ 32) chip.control.tags
-  pub scan_fits_lem : (chip.control.scan.counter < 2 ^ 16) × (chip.control.scan.select < 2 ^ 16)
+  pub scan_fits : (chip.control.scan.counter < 2 ^ 16) × (chip.control.scan.select < 2 ^ 16)
   pub pixels_long : length chip.pixels ≡ pixel_bytes
   pub video_long : length chip.video ≡ video_bytes
 

@@ -8,6 +8,9 @@ ghost use Rattle.block.specs.Block.{IsBlock, header, same, decode_control, well_
 
 use super::{fields, places};
 
+// The last of 40 pairs of bytes of a video buffer.
+const LAST_PAIR: u16 = 39;
+
 // Whether the header's fields but P are document 01's: 8 slots, then the offsets and the length, two fields as one word.
 fn header_fits(s: &[u8]) -> bool
     requires { IsBlock s.now }
@@ -61,7 +64,7 @@ fn scan_fits(s: &[u8]) -> bool
     requires { IsBlock s.now }
     ensures { result ≡ scan_fits (decode_control s.now).scan }
 {
-    if lists::half_at(s, places::SCAN_AT) > 39 {
+    if lists::half_at(s, places::SCAN_AT) > LAST_PAIR {
         return false;
     }
     lists::half_at(s, places::SELECT_AT) <= 1

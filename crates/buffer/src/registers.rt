@@ -26,12 +26,15 @@ fn writable_bits(number: u32) -> u32
     if number == 6 { 0x0f03_0707 } else { 1 }
 }
 
+// Two action bits from here on have a leading 1, and act.
+const ACTING: u32 = 2;
+
 // A flag after two action bits: 10 turns it off, 11 on, and a leading 0 changes nothing.
 fn switched_by(two: u32, was: bool) -> bool
     requires { two < 4 }
     ensures { result ≡ switched two was }
 {
-    if two < 2 { was } else { two == 3 }
+    if two < ACTING { was } else { two == 3 }
 }
 
 // Compare control: bits 27 to 24 act on picking and hit, and are stored as 0.

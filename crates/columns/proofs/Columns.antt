@@ -12,7 +12,7 @@ use Rattle.columns.specs.declared.Column.{Column}
 use Rattle.columns.specs.declared.Column.TheVariants.{Entry, OffScreen}
 use Rattle.columns.specs.declared.Filled.{Filled}
 use Rattle.columns.specs.declared.Filled.TheVariants.{Whole, WrongLength}
-use Rattle.columns.proofs.Tables.{get_d_table}
+use Rattle.columns.proofs.Tables.{get_or_table}
 
 pub entry_lt : (x : ℕ) → x < 1280 → column_entry x < 2048
 unfolding column_entry
@@ -37,8 +37,8 @@ upper_byte x h =
 pub entry_read_back : (x : ℕ) → x < 1280 → get_or column_bytes (2 * x) 0 + get_or column_bytes (2 * x + 1) 0 * 256 ≡ column_entry x
 unfolding column_bytes
 entry_read_back x h =
-    let low : get_or (table 2560 column_byte) (2 * x) 0 ≡ column_entry x % 256 = get_d_table 2560 column_byte (2 * x) (omega arith) ∙ lower_byte x in
-    let high : get_or (table 2560 column_byte) (2 * x + 1) 0 ≡ column_entry x / 256 = get_d_table 2560 column_byte (2 * x + 1) (omega arith) ∙ upper_byte x h in
+    let low : get_or (table 2560 column_byte) (2 * x) 0 ≡ column_entry x % 256 = get_or_table 2560 column_byte (2 * x) (omega arith) ∙ lower_byte x in
+    let high : get_or (table 2560 column_byte) (2 * x + 1) 0 ≡ column_entry x / 256 = get_or_table 2560 column_byte (2 * x + 1) (omega arith) ∙ upper_byte x h in
     rw (low, high) (omega arith)
 
 -- ---- equal numbers and entries are equal answers

@@ -14,16 +14,16 @@ unfolding table
 length_table zero f = refl
 length_table (suc n) f = ap suc (length_table n (λ k. f (suc k)))
 
-pub get_d_table : (n : ℕ) (f : ℕ → ℕ) (k : ℕ) → k < n → get_or (table n f) k 0 ≡ f k
+pub get_or_table : (n : ℕ) (f : ℕ → ℕ) (k : ℕ) → k < n → get_or (table n f) k 0 ≡ f k
 unfolding table
-get_d_table zero f k h = absurd (not-suc-le-zero h)
-get_d_table (suc n) f zero h = refl
-get_d_table (suc n) f (suc k) h = get_d_table n (λ j. f (suc j)) k (le_of_suc-le-suc h)
+get_or_table zero f k h = absurd (not-suc-le-zero h)
+get_or_table (suc n) f zero h = refl
+get_or_table (suc n) f (suc k) h = get_or_table n (λ j. f (suc j)) k (le_of_suc-le-suc h)
 
 pub is_table : (l : List ℕ) (n : ℕ) (f : ℕ → ℕ) → length l ≡ n → ((k : ℕ) → k < n → get_or l k 0 ≡ f k) → l ≡ table n f
 is_table l n f e h =
     ext_get_or 0 l (table n f) (e ∙ sym (length_table n f))
-    (λ k lt. let below : k < n = omega arith in h k below ∙ sym (get_d_table n f k below))
+    (λ k lt. let below : k < n = omega arith in h k below ∙ sym (get_or_table n f k below))
 
 -- one place more, of a list that is filled from the front
 pub filled_next : (f : ℕ → ℕ) (l : List ℕ) (i v : ℕ) → i < length l → v ≡ f i → ((k : ℕ) → k < i → get_or l k 0 ≡ f k)

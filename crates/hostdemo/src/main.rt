@@ -2,16 +2,15 @@
 // which that word stands, and puts its first bytes out to the display. docs/HOSTS.md explains it.
 #![tactic(auto)]
 
-ghost use Rattle.std.specs.Prelude.{◌≡◌, IfOk};
+ghost use Rattle.std.specs.Prelude.{◌≡◌};
 ghost use Rattle.chip.specs.Answers.{given_back};
 ghost use Rattle.chip.specs.Calls.{call_given, chip_of, memory_of, fresh_given, fresh_chip};
 
 use block::places;
 use chip::{Answer, Answered, Call, Chip, Control, Scan};
-use std::io;
 
-// Says what a call answered. The answer is taken apart before its value is read.
-fn tell(rt: &impl Print, name: &str, answer: Answer) -> io::Result<()> {
+// Says what a call answered. The answer is taken apart before its value is read. A line that cannot be written is let go, here and in `show`.
+fn tell(rt: &impl Print, name: &str, answer: Answer) {
     let Answer::Done {
         value,
         pass: _,
@@ -19,9 +18,10 @@ fn tell(rt: &impl Print, name: &str, answer: Answer) -> io::Result<()> {
     } = answer
     else {
         let number = chip::answers::number(answer);
-        return println!(rt; "{name}: refused with {number}");
+        println!(rt; "{name}: refused with {number}").is_ok();
+        return;
     };
-    println!(rt; "{name}: done, value {value}")
+    println!(rt; "{name}: done, value {value}").is_ok();
 }
 
 // Lends a chip to the call that makes it fresh.
@@ -48,32 +48,25 @@ fn advanced(chip: Chip, memory: &mut [u8], x: Call) -> Answered
     }
 }
 
-// Makes a call, says what it answered, and gives back the chip that it leaves. Where it cannot be said, memory is what the call leaves all the same.
-fn step(rt: &impl Print, name: &str, chip: Chip, memory: &mut [u8], x: Call) -> io::Result<Chip>
-    ensures chip { IfOk result (λ after. after ≡ chip_of chip memory.old x) }
-    ensures memory { memory.new ≡ memory_of chip memory.old x }
+// Makes a call, says what it answered, and gives back the chip that it leaves.
+fn step(rt: &impl Print, name: &str, chip: Chip, memory: &mut [u8], x: Call) -> Chip
+    ensures { (result ≡ chip_of chip memory.old x) × (memory.new ≡ memory_of chip memory.old x) }
 {
     let done = advanced(chip, memory, x);
-    tell(rt, name, done.answer)?;
-    Ok(done.chip)
+    tell(rt, name, done.answer);
+    done.chip
 }
 
 // Shows the first word of a scan line, or says with which number it is refused.
-fn show(
-    rt: &impl Print,
-    control: Control,
-    memory: &[u8],
-    bank: u32,
-    page: u32,
-    line: u32,
-) -> io::Result<()> {
+fn show(rt: &impl Print, control: Control, memory: &[u8], bank: u32, page: u32, line: u32) {
     let shown = hosts::display::scan_line(control, memory, bank, page, line);
     if shown.len() < 4 {
         let number = hosts::display::scan_line_number(control, memory.len(), bank, page, line);
-        return println!(rt; "scan line: refused with {number}");
+        println!(rt; "scan line: refused with {number}").is_ok();
+        return;
     }
     let word = bits::join(shown[0], shown[1], shown[2], shown[3]);
-    println!(rt; "scan line: begins with {word}")
+    println!(rt; "scan line: begins with {word}").is_ok();
 }
 
 fn call(op: u32, a: u32, b: u32, c: u32, d: u32, given: u32) -> Call {
@@ -88,29 +81,29 @@ fn call(op: u32, a: u32, b: u32, c: u32, d: u32, given: u32) -> Call {
 }
 
 // Opens page 0 of bank 0 and loads its block 0 into slot 0.
-fn load(rt: &impl Print, fresh: Chip, memory: &mut [u8]) -> io::Result<Chip> {
-    let opened = step(rt, "access page", fresh, memory, call(1, 0, 0, 0, 0, 0))?;
+fn load(rt: &impl Print, fresh: Chip, memory: &mut [u8]) -> Chip {
+    let opened = step(rt, "access page", fresh, memory, call(1, 0, 0, 0, 0, 0));
     step(rt, "read block", opened, memory, call(4, 0, 0, 0, 0, 0))
 }
 
 // Writes a word into slot 0, all four of its bytes; made once more, the write changes none.
-fn draw(rt: &impl Print, loaded: Chip, memory: &mut [u8]) -> io::Result<Chip> {
+fn draw(rt: &impl Print, loaded: Chip, memory: &mut [u8]) -> Chip {
     let write = call(11, 0, 0, 15, 3, 0x0102_0304);
-    let drawn = step(rt, "data write", loaded, memory, write)?;
+    let drawn = step(rt, "data write", loaded, memory, write);
     step(rt, "data write, again", drawn, memory, write)
 }
 
 // A word that waits in the pixel buffer is not on the scan line: it is there after the write-back.
-fn write_back(rt: &impl Print, drawn: Chip, memory: &mut [u8]) -> io::Result<Chip> {
-    show(rt, drawn.control, memory, 0, 0, 0)?;
-    let back = step(rt, "write block", drawn, memory, call(5, 0, 0, 0, 0, 0))?;
-    show(rt, back.control, memory, 0, 0, 0)?;
-    Ok(back)
+fn write_back(rt: &impl Print, drawn: Chip, memory: &mut [u8]) -> Chip {
+    show(rt, drawn.control, memory, 0, 0, 0);
+    let back = step(rt, "write block", drawn, memory, call(5, 0, 0, 0, 0, 0));
+    show(rt, back.control, memory, 0, 0, 0);
+    back
 }
 
 // Transfers the scan line into video buffer 0, which is selected, and puts out its first two bytes.
-fn scan_out(rt: &impl Print, back: Chip, memory: &mut [u8]) -> io::Result<Chip> {
-    let filled = step(rt, "video transfer", back, memory, call(16, 0, 0, 0, 0, 0))?;
+fn scan_out(rt: &impl Print, back: Chip, memory: &mut [u8]) -> Chip {
+    let filled = step(rt, "video transfer", back, memory, call(16, 0, 0, 0, 0, 0));
     step(rt, "video clock", filled, memory, call(17, 0, 0, 0, 0, 0))
 }
 
@@ -123,23 +116,22 @@ fn as_the_base_kept_it(state: [u8; places::BLOCK_BYTES]) -> [u8; places::VIDEO_A
 }
 
 // Keeps the chip as a state block, as before a host stops, and reads it back over a chip that is not well formed. An older block is read too.
-fn kept(rt: &impl Print, chip: Chip) -> io::Result<Chip> {
+fn kept(rt: &impl Print, chip: Chip) -> Chip {
     let mut state = [0u8; places::BLOCK_BYTES];
-    tell(rt, "keep", hosts::kept::keep(chip, &mut state))?;
+    tell(rt, "keep", hosts::kept::keep(chip, &mut state));
     let back = hosts::kept::read(ill_formed(), &state);
-    tell(rt, "read", back.answer)?;
+    tell(rt, "read", back.answer);
     let base = as_the_base_kept_it(state);
     let older = hosts::kept::read(ill_formed(), &base);
-    tell(rt, "read of 348 bytes", older.answer)?;
-    Ok(back.chip)
+    tell(rt, "read of 348 bytes", older.answer);
+    back.chip
 }
 
 // Page 1 is not below P, the bank is open already, and the selected video buffer is not yet put out whole.
-fn be_refused(rt: &impl Print, chip: Chip, memory: &mut [u8]) -> io::Result<()> {
-    show(rt, chip.control, memory, 0, 1, 0)?;
-    step(rt, "access page", chip, memory, call(1, 0, 0, 0, 0, 0))?;
-    step(rt, "video transfer", chip, memory, call(16, 0, 0, 0, 0, 0))?;
-    Ok(())
+fn be_refused(rt: &impl Print, chip: Chip, memory: &mut [u8]) {
+    show(rt, chip.control, memory, 0, 1, 0);
+    step(rt, "access page", chip, memory, call(1, 0, 0, 0, 0, 0));
+    step(rt, "video transfer", chip, memory, call(16, 0, 0, 0, 0, 0));
 }
 
 // A chip of no pages, which is not well formed.
@@ -164,13 +156,13 @@ fn ill_formed() -> Chip {
 }
 
 // A chip that is not well formed is made fresh all the same.
-fn main(rt: HostRuntime) -> io::Result<()> {
+fn main(rt: HostRuntime) {
     let mut memory = [0u8; 5120];
     let made = freshened(ill_formed(), 1);
-    tell(&rt, "fresh chip", made.answer)?;
-    let loaded = load(&rt, made.chip, &mut memory)?;
-    let drawn = draw(&rt, loaded, &mut memory)?;
-    let back = write_back(&rt, drawn, &mut memory)?;
-    let scanned = scan_out(&rt, back, &mut memory)?;
-    be_refused(&rt, kept(&rt, scanned)?, &mut memory)
+    tell(&rt, "fresh chip", made.answer);
+    let loaded = load(&rt, made.chip, &mut memory);
+    let drawn = draw(&rt, loaded, &mut memory);
+    let back = write_back(&rt, drawn, &mut memory);
+    let scanned = scan_out(&rt, back, &mut memory);
+    be_refused(&rt, kept(&rt, scanned), &mut memory);
 }

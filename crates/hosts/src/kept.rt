@@ -12,7 +12,8 @@ pub fn keep(chip: Chip, state: &mut [u8]) -> Answer
     ensures { (given_back result ≡ numbered (keep_number chip (length state.old))) × (state.new ≡ kept_block chip state.old) }
 {
     let control = chip.control;
-    if state.len() != places::BLOCK_BYTES {
+    let is_block_long = state.len() == places::BLOCK_BYTES;
+    if !is_block_long {
         return Answer::Refused(Refusal::IllFormed);
     }
     if !chip::form::well_formed(control) {

@@ -5,6 +5,8 @@ ghost use Rattle.lines.specs.ByByte.{holding_none, started, spoilt, pushed, afte
 
 use chip::Call;
 
+const SPACE: u8 = 32;
+
 // What a line is: six numbers, or number 9. Its number and its call are parsed_given of specs/Lines.antt.
 #[derive(Clone, Copy)]
 pub enum Parsed {
@@ -126,7 +128,7 @@ fn digit(reader: Reader, byte: u8) -> Reader
 pub fn step(reader: Reader, byte: u8) -> Reader
     ensures { result ≡ after_byte reader byte }
 {
-    if byte == 32 {
+    if byte == SPACE {
         return space(reader);
     }
     if byte < 48 {

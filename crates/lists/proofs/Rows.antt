@@ -23,11 +23,11 @@ unfolding bytes_from
 length_bytes zero n x = refl
 length_bytes (suc w) n x = ap suc (length_bytes w (suc n) x)
 
-get_d_bytes : (w n x k : ℕ) → k < w → get_or (bytes_from w n x) k 0 ≡ byte x (n + k)
+get_or_bytes : (w n x k : ℕ) → k < w → get_or (bytes_from w n x) k 0 ≡ byte x (n + k)
 unfolding bytes_from
-get_d_bytes zero n x k h = absurd (omega arith)
-get_d_bytes (suc w) n x zero h = ap (byte x) (sym (add-zero n))
-get_d_bytes (suc w) n x (suc k) h = get_d_bytes w (suc n) x k (omega arith) ∙ ap (byte x) (omega arith)
+get_or_bytes zero n x k h = absurd (omega arith)
+get_or_bytes (suc w) n x zero h = ap (byte x) (sym (add-zero n))
+get_or_bytes (suc w) n x (suc k) h = get_or_bytes w (suc n) x k (omega arith) ∙ ap (byte x) (omega arith)
 
 -- bytes put over all of another number's
 over : (w x y : ℕ) → update w (λ n. n) (λ n was. byte x n) (bytes_from w 0 y) ≡ bytes_from w 0 x
@@ -36,7 +36,7 @@ over w x y =
     ext_get_or 0 _ (bytes_from w 0 x) (long ∙ sym (length_bytes w 0 x))
     (λ i h. let below : i < w = omega (arith, long, h) in
     update_same w (λ n. n) (λ n was. byte x n) (bytes_from w 0 y) (λ a b ha hb e. e) (λ a ha. omega (arith, length_bytes w 0 y)) i below
-    ∙ ap (byte x) (sym (zero-add i)) ∙ sym (get_d_bytes w 0 x i below))
+    ∙ ap (byte x) (sym (zero-add i)) ∙ sym (get_or_bytes w 0 x i below))
 
 -- ---- a row
 

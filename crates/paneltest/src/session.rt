@@ -7,6 +7,8 @@ use crate::reply;
 use chip::Chip;
 use lines::reader::{Parsed, Reader};
 
+const END_OF_LINE: u8 = 10;
+
 #[derive(Drop)]
 pub struct Session {
     pub chip: Chip,
@@ -72,7 +74,7 @@ fn take_byte(
     requires { at + 44 ≤ length output.old }
     ensures { Leaves (byte_run session memory.old byte) result memory.new at output.old output.new }
 {
-    if byte == 10 {
+    if byte == END_OF_LINE {
         return end_line(session, memory, output, at);
     }
     let chip = session.chip;

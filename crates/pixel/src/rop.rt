@@ -18,11 +18,11 @@ pub fn raster(rop: u32, new: u32, old: u32) -> u32
     bits::mux(new, one, zero)
 }
 
-// The destination after the write: the bytes taken have result under the plane mask.
+// The destination after the write: the bytes taken have `drawn` under the plane mask.
 // The product puts bit n of taken at bit 8n, where `spread` finds it.
-pub fn merge(dest: u32, res: u32, plane_mask: u32, taken: u32) -> u32
-    ensures { result ≡ merge_word dest res plane_mask taken }
+pub fn merge(dest: u32, drawn: u32, plane_mask: u32, taken: u32) -> u32
+    ensures { result ≡ merge_word dest drawn plane_mask taken }
 {
     let bytes = bits::spread((taken & 15) * 0x0020_4081);
-    bits::mux(bytes & plane_mask, res, dest)
+    bits::mux(bytes & plane_mask, drawn, dest)
 }

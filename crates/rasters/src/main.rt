@@ -4,8 +4,6 @@
 
 ghost use Rattle.std.specs.Prelude.{◌<◌};
 
-use std::io;
-
 // The databook's formula of a code, on whole words.
 fn formula(code: u32, new: u32, old: u32) -> u32 {
     match code {
@@ -47,8 +45,8 @@ fn agrees_everywhere(code: u32) -> bool
         & agrees(code, 0x8000_0001, 0xc000_0003)
 }
 
-// Writes the line of a code.
-fn compare(rt: &impl Print, code: u32, name: &str, databook: &str) -> io::Result<()>
+// Writes the line of a code. A line that cannot be written is let go.
+fn compare(rt: &impl Print, code: u32, name: &str, databook: &str)
     requires { code < 16 }
 {
     let verdict = if agrees_everywhere(code) {
@@ -56,24 +54,24 @@ fn compare(rt: &impl Print, code: u32, name: &str, databook: &str) -> io::Result
     } else {
         "DIFFERS"
     };
-    println!(rt; "{code} {name}: {databook}: {verdict}")
+    println!(rt; "{code} {name}: {databook}: {verdict}").is_ok();
 }
 
-fn main(rt: HostRuntime) -> io::Result<()> {
-    compare(&rt, 0, "clear", "All bits zero")?;
-    compare(&rt, 1, "and", "NEW and OLD")?;
-    compare(&rt, 2, "andReverse", "NEW and ~OLD")?;
-    compare(&rt, 3, "copy", "NEW")?;
-    compare(&rt, 4, "andInverted", "~NEW and OLD")?;
-    compare(&rt, 5, "noop", "OLD")?;
-    compare(&rt, 6, "xor", "NEW xor OLD")?;
-    compare(&rt, 7, "or", "NEW or OLD")?;
-    compare(&rt, 8, "nor", "~NEW and ~OLD")?;
-    compare(&rt, 9, "equiv", "~NEW xor OLD")?;
-    compare(&rt, 10, "invert", "~OLD")?;
-    compare(&rt, 11, "orReverse", "NEW or ~OLD")?;
-    compare(&rt, 12, "copyInverted", "~NEW")?;
-    compare(&rt, 13, "orInverted", "~NEW or OLD")?;
-    compare(&rt, 14, "nand", "~NEW or ~OLD")?;
-    compare(&rt, 15, "set", "All bits one")
+fn main(rt: HostRuntime) {
+    compare(&rt, 0, "clear", "All bits zero");
+    compare(&rt, 1, "and", "NEW and OLD");
+    compare(&rt, 2, "andReverse", "NEW and ~OLD");
+    compare(&rt, 3, "copy", "NEW");
+    compare(&rt, 4, "andInverted", "~NEW and OLD");
+    compare(&rt, 5, "noop", "OLD");
+    compare(&rt, 6, "xor", "NEW xor OLD");
+    compare(&rt, 7, "or", "NEW or OLD");
+    compare(&rt, 8, "nor", "~NEW and ~OLD");
+    compare(&rt, 9, "equiv", "~NEW xor OLD");
+    compare(&rt, 10, "invert", "~OLD");
+    compare(&rt, 11, "orReverse", "NEW or ~OLD");
+    compare(&rt, 12, "copyInverted", "~NEW");
+    compare(&rt, 13, "orInverted", "~NEW or OLD");
+    compare(&rt, 14, "nand", "~NEW or ~OLD");
+    compare(&rt, 15, "set", "All bits one");
 }

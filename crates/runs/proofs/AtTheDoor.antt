@@ -121,12 +121,12 @@ door_run (x ∷ xs) w z (h, fit) =
 fresh_sized : (P : ℕ) → pages_fit P ≡ true → Sized (fresh_of P)
 unfolding fresh_of fresh_with fresh_control fresh_registers fresh_video fresh_scan slots closed
 fresh_sized P e = record {
-  pages_fit_lem = omega (arith, (pages_between P e).1);
+  pages_fit = omega (arith, (pages_between P e).1);
   banks = record { long = refl; fit = λ j. entry_holds (λ x. x < 2 ^ 16) (replicate 4 closed) j 0 (lit< tt) (lit< tt, (lit< tt, (lit< tt, (lit< tt, tt)))) };
   registers = record { long = refl; fit = λ j. entry_holds (λ x. x < 2 ^ 32) fresh_registers j 0 (lit< tt) (lit< tt, (lit< tt, (lit< tt, (lit< tt, (lit< tt, (lit< tt, (lit< tt, tt))))))) };
   counter_fits = lit< tt;
   tags = record { long = refl; fit = λ j. entry_holds (λ x. x < 2 ^ 32) (replicate slots 0) j 0 (lit< tt) (lit< tt, (lit< tt, (lit< tt, (lit< tt, (lit< tt, (lit< tt, (lit< tt, (lit< tt, tt)))))))) };
-  scan_fits_lem = (lit< tt, lit< tt);
+  scan_fits = (lit< tt, lit< tt);
   pixels_long = length-replicate {A = ℕ} 256 0;
   video_long = length-replicate {A = ℕ} 160 0;
 }

@@ -12,12 +12,12 @@ use Rattle.block.specs.Kept.{Sized}
 
 pub sized : (chip : Chip) (vs : List Val) → Is (row the_type) chip vs → Sized chip
 sized chip vs g = record {
-  pages_fit_lem = search rules;
+  pages_fit = search rules;
   banks = record { long = search rules; fit = λ j. let f : Fits w16 (get_or chip.control.banks j 0) = search rules in f.fits };
   registers = record { long = search rules; fit = λ j. let f : Fits w32 (get_or chip.control.registers j 0) = search rules in f.fits };
   counter_fits = search rules;
   tags = record { long = search rules; fit = λ j. let f : Fits w32 (get_or chip.control.tags j 0) = search rules in f.fits };
-  scan_fits_lem = (search rules, search rules);
+  scan_fits = (search rules, search rules);
   pixels_long = search rules;
   video_long = search rules;
 }

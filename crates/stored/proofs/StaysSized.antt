@@ -60,7 +60,7 @@ module _ (chip : Chip) (memory : List ℕ) (z : Sized chip) where
 
   page_fits_lem : (b p : ℕ) → in_range slots c.pages (access b p) ≡ true → p < 2 ^ 16
   unfolding in_range
-  page_fits_lem b p r = lt_trans (page_range slots c.pages b p r).1 z.pages_fit_lem
+  page_fits_lem b p r = lt_trans (page_range slots c.pages b p r).1 z.pages_fit
 
   tag_fits : (replace : Bool) (slot tag : ℕ) → tag < 2 ^ 32 → cond replace tag (bit_or (tag_of c slot) tag) < 2 ^ 32
   unfolding tag_of
@@ -73,7 +73,7 @@ module _ (chip : Chip) (memory : List ℕ) (z : Sized chip) where
 
   select_fits : (wraps : Bool) → cond wraps (1 - c.scan.select) c.scan.select < 2 ^ 16
   select_fits true = omega arith
-  select_fits false = z.scan_fits_lem.1
+  select_fits false = z.scan_fits.1
 
   -- but for the counter's advance
   control_sized : (o : Operation) (read : Reading) → in_range slots c.pages o ≡ true → Word o → Sized (under chip (effect slots c o read).control)

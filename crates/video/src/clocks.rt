@@ -9,12 +9,15 @@ use block::fields;
 use chip::{Answer, Call, Refusal, Scan};
 use own::{done, operands};
 
+// The last of 40 pairs of bytes.
+const LAST_PAIR: u16 = 39;
+
 // The next pair of bytes; behind the last one, the other buffer.
 fn count(s: &mut [u8], scan: Scan)
     requires { IsBlock s.old × (scan.counter ≤ 39) × (scan.select ≤ 1) }
     ensures { s.new ≡ counted_in scan s.old }
 {
-    if scan.counter == 39 {
+    if scan.counter == LAST_PAIR {
         fields::put_scan_counter(s, 0);
         fields::put_scan_select(s, 1 - scan.select);
     } else {

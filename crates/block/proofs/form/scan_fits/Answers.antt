@@ -5,10 +5,10 @@ use Rattle.chip.specs.Video.{scan_fits}
 use Rattle.block.specs.Block.{decode_control}
 use Rattle.block.proofs.form.scan_fits.Goals as goal
 
-pub returns-then-half_at-gt39 : goal.returns-then-half_at-gt39
+pub returns-then-half_at-gt-LAST_PAIR : goal.returns-then-half_at-gt-LAST_PAIR
 unfolding scan_fits decode_control
-returns-then-half_at-gt39 c = sym (rw (← c.half_at.ensures, lt-leb _ _ c.if-half_at-gt39.true))
+returns-then-half_at-gt-LAST_PAIR c = sym (rw (← c.half_at.ensures, lt-leb _ _ c.if-half_at-gt-LAST_PAIR.true))
 
 pub returns : goal.returns
 unfolding scan_fits decode_control
-returns c = sym (rw (← c.half_at.ensures, ← c.half_at-2.ensures, le-leb _ _ c.if-half_at-gt39.false))
+returns c = sym (rw (← c.half_at.ensures, ← c.half_at-2.ensures, le-leb _ _ c.if-half_at-gt-LAST_PAIR.false))

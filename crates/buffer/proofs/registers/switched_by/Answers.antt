@@ -2,8 +2,8 @@
 use Rattle.buffer.proofs.Settings.{switched_low, switched_high}
 use Rattle.buffer.proofs.registers.switched_by.Goals as goal
 
-pub returns-then-two-lt2 : goal.returns-then-two-lt2
-returns-then-two-lt2 c = switched_low c.args.two c.args.was c.if-two-lt2.true
+pub returns-then-two-lt-ACTING : goal.returns-then-two-lt-ACTING
+returns-then-two-lt-ACTING c = switched_low c.args.two c.args.was c.if-two-lt-ACTING.true
 
-pub returns-else-two-lt2 : goal.returns-else-two-lt2
-returns-else-two-lt2 c = switched_high c.args.two c.args.was c.if-two-lt2.false c.requires
+pub returns-else-two-lt-ACTING : goal.returns-else-two-lt-ACTING
+returns-else-two-lt-ACTING c = switched_high c.args.two c.args.was c.if-two-lt-ACTING.false c.requires

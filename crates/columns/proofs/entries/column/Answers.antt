@@ -4,7 +4,7 @@ use native.Mathlib.Omega.{arith}
 use borrow.Author.Tests.{lt-ltb, le-ltb}
 use Rattle.numbers.specs.Numbers.{first}
 use Rattle.columns.specs.Columns.{column_entry, column_table, column_number, entry_given, column_given}
-use Rattle.columns.proofs.Tables.{get_d_table}
+use Rattle.columns.proofs.Tables.{get_or_table}
 use Rattle.columns.proofs.entries.column.Goals as goal
 
 pub returns-then-x-ge-WIDTH : goal.returns-then-x-ge-WIDTH
@@ -16,4 +16,4 @@ unfolding column_given entry_given column_number first column_table
 returns c =
     let x = c.args.x in
     let on : x < 1280 = omega arith in
-    rw (c.columns-entries.ensures, get_d_table 1280 column_entry x on, lt-ltb x 1280 on)
+    rw (c.columns-entries.ensures, get_or_table 1280 column_entry x on, lt-ltb x 1280 on)

@@ -8,7 +8,7 @@ use lib.ListN.{length, get_or, set, length-set}
 use borrow.Author.Tests.{eq-eqb, ne_eqb}
 use Rattle.numbers.specs.Numbers.{first}
 use Rattle.columns.specs.Columns.{column_entry, column_table, column_byte, column_bytes, columns_number, columns_left}
-use Rattle.columns.proofs.Tables.{get_d_table, is_table, filled_next}
+use Rattle.columns.proofs.Tables.{get_or_table, is_table, filled_next}
 use Rattle.columns.proofs.Columns.{entry_lt, lower_byte, upper_byte}
 use Rattle.columns.proofs.entries.fill.Goals as goal
 
@@ -22,7 +22,7 @@ loop-x-init c = (omega arith, omega arith, λ j h. absurd (omega arith))
 pub overflow_cast-buffer-in-loop-x : goal.overflow_cast-buffer-in-loop-x
 unfolding column_table
 overflow_cast-buffer-in-loop-x c =
-    let entry_read : get_or c.columns-entries.result c.loop-x.x 0 ≡ column_entry c.loop-x.x = ap (λ entries. get_or entries c.loop-x.x 0) c.columns-entries.ensures ∙ get_d_table 1280 column_entry c.loop-x.x (omega arith) in
+    let entry_read : get_or c.columns-entries.result c.loop-x.x 0 ≡ column_entry c.loop-x.x = ap (λ entries. get_or entries c.loop-x.x 0) c.columns-entries.ensures ∙ get_or_table 1280 column_entry c.loop-x.x (omega arith) in
     omega (arith, entry_read, entry_lt c.loop-x.x (omega arith))
 
 -- a turn puts the entry's lower byte, and then its upper byte
@@ -36,7 +36,7 @@ turned entry x buffer h e long before =
 pub loop-x-preserved : goal.loop-x-preserved
 unfolding column_table
 loop-x-preserved c =
-    let entry_read : get_or c.columns-entries.result c.loop-x.x 0 ≡ column_entry c.loop-x.x = ap (λ entries. get_or entries c.loop-x.x 0) c.columns-entries.ensures ∙ get_d_table 1280 column_entry c.loop-x.x (omega arith) in
+    let entry_read : get_or c.columns-entries.result c.loop-x.x 0 ≡ column_entry c.loop-x.x = ap (λ entries. get_or entries c.loop-x.x 0) c.columns-entries.ensures ∙ get_or_table 1280 column_entry c.loop-x.x (omega arith) in
     let inv = c.loop-x.invariant in
     let x = c.loop-x.x in (
       omega arith,

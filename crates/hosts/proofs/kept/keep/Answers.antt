@@ -11,18 +11,18 @@ use Rattle.block.specs.Block.{block_bytes}
 use Rattle.hosts.specs.Keeping.{keep_number, kept_block}
 use Rattle.hosts.proofs.kept.keep.Goals as goal
 
-pub returns-then-state-ne-BLOCK_BYTES : goal.returns-then-state-ne-BLOCK_BYTES
+pub returns-then-not-is_block_long : goal.returns-then-not-is_block_long
 unfolding kept_block keep_number first
-returns-then-state-ne-BLOCK_BYTES c = rw (ne_eqb _ block_bytes c.if-state-ne-BLOCK_BYTES.true) (refl, refl)
+returns-then-not-is_block_long c = rw (ne_eqb _ block_bytes c.if-not-is_block_long.true) (refl, refl)
 
 pub returns-then-not-well_formed : goal.returns-then-not-well_formed
 unfolding kept_block keep_number first
 returns-then-not-well_formed c =
-    let long : eqb (length c.args.state.now) block_bytes ≡ true = eq-eqb _ block_bytes c.if-state-ne-BLOCK_BYTES.false in
+    let long : eqb (length c.args.state.now) block_bytes ≡ true = eq-eqb _ block_bytes c.if-not-is_block_long.false in
     rw (long, test_fails c.well_formed-2.ensures c.if-not-well_formed.true) (refl, refl)
 
 pub returns : goal.returns
 unfolding kept_block keep_number first
 returns c =
-    let long : eqb (length c.args.state.now) block_bytes ≡ true = eq-eqb _ block_bytes c.if-state-ne-BLOCK_BYTES.false in
+    let long : eqb (length c.args.state.now) block_bytes ≡ true = eq-eqb _ block_bytes c.if-not-is_block_long.false in
     rw (long, test_holds c.well_formed-2.ensures c.if-not-well_formed.false) (refl, c.store.ensures)

@@ -3,15 +3,15 @@ use native.Mathlib.Omega.{arith}
 use Rattle.lines.proofs.Steps.{byte_space, byte_digit, byte_below, byte_above}
 use Rattle.lines.proofs.reader.step.Goals as goal
 
-pub returns-then-byte-eq32 : goal.returns-then-byte-eq32
-returns-then-byte-eq32 c =
+pub returns-then-byte-eq-SPACE : goal.returns-then-byte-eq-SPACE
+returns-then-byte-eq-SPACE c =
     let a = c.args in
     rw (c.space.ensures, byte_space a.reader a.byte (omega arith))
 
 pub returns-then-byte-lt48 : goal.returns-then-byte-lt48
 returns-then-byte-lt48 c =
     let a = c.args in
-    rw (c.spoil.ensures, byte_below a.reader a.byte c.if-byte-eq32.false (omega arith))
+    rw (c.spoil.ensures, byte_below a.reader a.byte c.if-byte-eq-SPACE.false (omega arith))
 
 pub returns-then-byte-gt57 : goal.returns-then-byte-gt57
 returns-then-byte-gt57 c =

@@ -3,4 +3,4 @@ use Rattle.pixel.proofs.Rules.{merge_law}
 use Rattle.pixel.proofs.rop.merge.Goals as goal
 
 pub returns : goal.returns
-returns c = rw (c.mux.ensures, c.spread-bytes.ensures) (merge_law c.args.dest c.args.res c.args.plane_mask c.args.taken)
+returns c = rw (c.mux.ensures, c.spread-bytes.ensures) (merge_law c.args.dest c.args.drawn c.args.plane_mask c.args.taken)

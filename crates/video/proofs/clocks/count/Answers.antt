@@ -6,12 +6,12 @@ use Rattle.block.specs.Block.{select_at}
 use Rattle.video.specs.Clocks.{counted_in}
 use Rattle.video.proofs.clocks.count.Goals as goal
 
-pub returns-then-scan-eq39 : goal.returns-then-scan-eq39
+pub returns-then-scan-eq-LAST_PAIR : goal.returns-then-scan-eq-LAST_PAIR
 unfolding counted_in
-returns-then-scan-eq39 c =
-    rw (eq-eqb _ _ c.if-scan-eq39.true) (c.put_scan_select.ensures ∙ ap (put_half select_at _) c.put_scan_counter.ensures)
+returns-then-scan-eq-LAST_PAIR c =
+    rw (eq-eqb _ _ c.if-scan-eq-LAST_PAIR.true) (c.put_scan_select.ensures ∙ ap (put_half select_at _) c.put_scan_counter.ensures)
 
-pub returns-else-scan-eq39 : goal.returns-else-scan-eq39
+pub returns-else-scan-eq-LAST_PAIR : goal.returns-else-scan-eq-LAST_PAIR
 unfolding counted_in
-returns-else-scan-eq39 c =
-    rw (ne_eqb _ _ c.if-scan-eq39.false) c.put_scan_counter-else-scan-eq39.ensures
+returns-else-scan-eq-LAST_PAIR c =
+    rw (ne_eqb _ _ c.if-scan-eq-LAST_PAIR.false) c.put_scan_counter-else-scan-eq-LAST_PAIR.ensures
