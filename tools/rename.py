@@ -95,6 +95,8 @@ def table(root):
         # A lemma that would have its function's name gets _lem.
         if "-" in it and (taken[names[it]] > 1 or names[it] in others or names[it] in declared | bound - set(names)):
             names[it] += "_lem"
+    # The library's getD is get_or today.
+    names |= {it: "get_or_" + it[5:] for it in names if it.startswith("getD-")}
     # port.py made one name of a definition and a lemma: allDigits, all-digits.
     if "allDigits" in names:
         names["all_digits"] = "all_digits_lem"
