@@ -4,7 +4,9 @@ use mathlib.Core.Bool.{true, false}
 use mathlib.Core.List.{List}
 use Prim.Native.Nat.{ℕ, zero, suc, ◌≤◌}
 use lib.Dec.{eqb, leb}
-use lib.ListN.{length}
+use lib.ListN.{length, get_or}
+use native.Mathlib.Omega.{arith}
+use Rattle.std.proofs.Common.{Fits, w8}
 use borrow.Author.Tests.{eq-eqb, le-leb, leb-true}
 use Rattle.lists.specs.Words.{Bytes}
 use Rattle.numbers.specs.Numbers.{first, when_done}
@@ -37,6 +39,10 @@ pub record Ready (s memory : List ℕ) : Type 0 where
   pub bytes : Bytes s
   pub well : well_formed_block s ≡ true
   pub sized : length memory ≡ size (decode_control s).pages
+
+-- as code knows it: each byte of the block fits, and what its callers showed
+pub ready_from : (s memory : List ℕ) → ((i : ℕ) → Fits w8 (get_or s i 0)) → well_formed_block s ≡ true → length memory ≡ size (decode_control s).pages → Ready s memory
+ready_from s memory given well sized = record { bytes = λ i. omega (arith, given i); well = well; sized = sized }
 
 -- by the number that the definitions give
 refusal : (s memory : List ℕ) (x : Call) → Bytes s → well_formed_block s ≡ true

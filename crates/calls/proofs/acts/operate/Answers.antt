@@ -4,14 +4,13 @@ use Prim.Native.Nat.{◌≤◌}
 use native.Mathlib.Omega.{arith}
 use Rattle.chip.specs.Effects.{effect, memory_after}
 use Rattle.own.proofs.OwnLines.{row_stateful}
-use Rattle.calls.proofs.ByLine.{Ready, beside_memory}
+use Rattle.calls.proofs.ByLine.{ready_from, beside_memory}
 use Rattle.calls.proofs.acts.operate.Goals as goal
 
 pub returns-in-10 : goal.returns-in-10
 unfolding effect memory_after
 returns-in-10 c =
-    let ready : Ready c.args.s.now c.args.memory.now
-    = record { bytes = λ a. omega (arith, c.slice_known-1.given a); well = c.requires.1; sized = c.requires.2 } in
+    let ready = ready_from c.args.s.now c.args.memory.now c.slice_known-1.given c.requires.1 c.requires.2 in
     let low : 10 ≤ c.args.x.op = omega arith in
     let high : c.args.x.op ≤ 11 = omega arith in
     let own = c.stateful_write.ensures in
