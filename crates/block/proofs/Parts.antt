@@ -5,7 +5,8 @@ use Rattle.bits.specs.Bits.{digit}
 use Rattle.lists.specs.Update.{update}
 use Rattle.lists.specs.Words.{put_half, put_word, halves}
 use Rattle.lists.proofs.Seams.{start_of, put_in, start_long, split_at}
-use Rattle.lists.proofs.Rows.{length_row, half_put_in, word_put_in}
+use Rattle.lists.specs.Laws.{length_row}
+use Rattle.lists.proofs.Rows.{half_put_in, word_put_in}
 use Rattle.chip.specs.declared.Control.{Control}
 use Rattle.chip.specs.declared.Chip.{Chip}
 use Rattle.chip.specs.Changes.{with_page, with_tag, with_flags, with_stored, with_scan, ticked}

@@ -12,7 +12,7 @@ use block::fields;
 use chip::{Answer, Call, Refusal};
 use own::{done, operands};
 
-// The bits that may be 1 in a write of a register. No table: an array that is indexed is copied at each use.
+// The bits that may be 1 in a write of a register, which its number names, as in the documents' table and in a call. No table: an array that is indexed is copied at each use.
 fn writable_bits(number: u32) -> u32
     requires { (1 ≤ number) × (number ≤ 7) }
     ensures { result ≡ get_or writable (number - 1) 0 }
@@ -52,11 +52,11 @@ pub fn write_register(s: &mut [u8], x: Call) -> Answer
     requires { IsBlock s.old × (well_formed_block s.old ≡ true) × (x.op ≡ 14) }
     ensures { (given_back result ≡ own_given s.old x) × ((memory : List ℕ) → s.new ≡ own_block s.old memory x) }
 {
-    if !operands::register_fits(x) {
-        return Answer::Refused(Refusal::OperandOutside);
+    if !operands::fits(x, operands::WRITE_REGISTER) {
+        return Err(Refusal::OperandOutside);
     }
     if !bits::within(x.given, writable_bits(x.a)) {
-        return Answer::Refused(Refusal::BitNotAllowed);
+        return Err(Refusal::BitNotAllowed);
     }
     if x.a == 6 {
         put_compare(s, x.given);
@@ -70,8 +70,8 @@ pub fn read_register(s: &mut [u8], x: Call) -> Answer
     requires { IsBlock s.old × (well_formed_block s.old ≡ true) × (x.op ≡ 15) }
     ensures { (given_back result ≡ own_given s.old x) × ((memory : List ℕ) → s.new ≡ own_block s.old memory x) }
 {
-    if !operands::number_fits(x) {
-        return Answer::Refused(Refusal::OperandOutside);
+    if !operands::fits(x, operands::READ_REGISTER) {
+        return Err(Refusal::OperandOutside);
     }
     let value = fields::register(s, x.a);
     done(s, value)

@@ -5,6 +5,7 @@ ghost use Rattle.block.specs.Block.{IsBlock, well_formed_block};
 ghost use Rattle.own.specs.Own.{own_given, own_block};
 
 use block::fields;
+use chip::operations::Operation;
 use chip::{Answer, Call, Refusal};
 use own::{done, operands};
 
@@ -12,8 +13,8 @@ pub fn data_read(s: &mut [u8], x: Call) -> Answer
     requires { IsBlock s.old × (well_formed_block s.old ≡ true) × (x.op ≡ 7) }
     ensures { (given_back result ≡ own_given s.old x) × ((memory : List ℕ) → s.new ≡ own_block s.old memory x) }
 {
-    if !operands::word_fits(x) {
-        return Answer::Refused(Refusal::OperandOutside);
+    if !operands::fits(x, operands::DATA_READ) {
+        return Err(Refusal::OperandOutside);
     }
     let value = fields::slot_word(s, x.a, x.b);
     done(s, value)
@@ -24,10 +25,10 @@ pub fn write_tag(s: &mut [u8], x: Call) -> Answer
     requires { IsBlock s.old × (well_formed_block s.old ≡ true) × (12 ≤ x.op) × (x.op ≤ 13) }
     ensures { (given_back result ≡ own_given s.old x) × ((memory : List ℕ) → s.new ≡ own_block s.old memory x) }
 {
-    if !operands::slot_fits(x) {
-        return Answer::Refused(Refusal::OperandOutside);
+    if !operands::fits(x, operands::WRITE_TAG) {
+        return Err(Refusal::OperandOutside);
     }
-    let was = bits::pick(x.op == 12, 0, fields::tag(s, x.a));
+    let was = bits::pick(x.op == Operation::ReplaceTag as u32, 0, fields::tag(s, x.a));
     fields::put_tag(s, x.a, was | x.given);
     done(s, 0)
 }

@@ -8,7 +8,8 @@ ghost use Rattle.block.specs.Block.{IsBlock, pixels_in, well_formed_block};
 ghost use Rattle.own.specs.Own.{own_given, own_block, hit_marked, settled};
 
 use block::fields;
-use chip::{Answer, Call, Refusal};
+use chip::operations::Operation;
+use chip::{Answer, Call, Done, Refusal};
 use own::operands;
 use pixel::{Outcome, Write};
 
@@ -32,11 +33,11 @@ fn settle(s: &mut [u8], w: Write, slot: u32, word: u32, o: Outcome) -> Answer
     fields::put_tag(s, slot, before | (o.taken << (4 * word)));
     mark_hit(s, !w.stateless & o.written);
     fields::tick(s);
-    Answer::Done {
+    Ok(Done {
         value: o.changed,
         pass: o.pass,
         written: o.written,
-    }
+    })
 }
 
 // What a stateful write comes to, from the words where they lie.
@@ -54,10 +55,10 @@ pub fn stateful_write(s: &mut [u8], x: Call) -> Answer
     requires { IsBlock s.old × (well_formed_block s.old ≡ true) × (10 ≤ x.op) × (x.op ≤ 11) }
     ensures { (given_back result ≡ own_given s.old x) × ((memory : List ℕ) → s.new ≡ own_block s.old memory x) }
 {
-    if operands::write_fits(x) {
+    if operands::fits(x, operands::DATA_WRITE) {
         let w = Write {
             stateless: false,
-            initial: x.op == 10,
+            initial: x.op == Operation::StatefulInitialWrite as u32,
             slot: x.a,
             word: x.b,
             enables: x.c,
@@ -70,19 +71,20 @@ pub fn stateful_write(s: &mut [u8], x: Call) -> Answer
         let outcome = drawn(s, registers, w, slot, word);
         settle(s, w, slot, word, outcome)
     } else {
-        Answer::Refused(Refusal::OperandOutside)
+        Err(Refusal::OperandOutside)
     }
 }
 
-// Its destination is (slot, word) whatever the registers hold. The refusal is the other arm here too.
+// Its destination is (slot, word) whatever the registers hold. The refusal is the other arm here too. The write is written out here and there: it
+// is stateless or not by the function that asks for it.
 pub fn stateless_write(s: &mut [u8], x: Call) -> Answer
     requires { IsBlock s.old × (well_formed_block s.old ≡ true) × (8 ≤ x.op) × (x.op ≤ 9) }
     ensures { (given_back result ≡ own_given s.old x) × ((memory : List ℕ) → s.new ≡ own_block s.old memory x) }
 {
-    if operands::write_fits(x) {
+    if operands::fits(x, operands::DATA_WRITE) {
         let w = Write {
             stateless: true,
-            initial: x.op == 8,
+            initial: x.op == Operation::StatelessInitialWrite as u32,
             slot: x.a,
             word: x.b,
             enables: x.c,
@@ -93,6 +95,6 @@ pub fn stateless_write(s: &mut [u8], x: Call) -> Answer
         let outcome = pixel::stateless(w, dest);
         settle(s, w, x.a, x.b, outcome)
     } else {
-        Answer::Refused(Refusal::OperandOutside)
+        Err(Refusal::OperandOutside)
     }
 }

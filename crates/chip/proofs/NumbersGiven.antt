@@ -1,15 +1,17 @@
 -- The number that a call gives back is the first that applies; a refusal changes nothing; and what is given back says which answer it is. Assumes nothing.
-use Rattle.std.proofs.Common.{◌≡◌, ℕ, zero, suc, ◌-◌, ◌<◌, Bool, true, false, cond, eqb, List, [], ◌∷◌, length, get_or, refl, lit<}
+use Rattle.std.proofs.Common.{◌≡◌, ℕ, zero, suc, ◌<◌, Bool, true, false, cond, eqb, List, [], ◌∷◌, length, Result, Ok, Err, IsErrAnd, refl, lit<}
 use Rattle.lists.proofs.Entries.{Each}
 use Rattle.numbers.specs.Numbers.{first, when_done}
 use Rattle.numbers.proofs.Tests.{determined}
-use Rattle.chip.specs.declared.Answer.{Answer}
-use Rattle.chip.specs.declared.Answer.TheVariants.{Done, Refused}
-use Rattle.chip.specs.declared.Refusal.TheVariants.{IllFormed, MemoryLength, UnknownOperation, OperandOutside, BitNotAllowed, BankOpen, BankClosed, BufferInUse}
+use Rattle.numbers.specs.declared.Refusal.{Refusal}
+use Rattle.numbers.specs.Refusals.{refusal_number}
+use Rattle.numbers.proofs.Refusals.{refusal_of, refused_back}
+use Rattle.chip.specs.declared.Done.{Done}
 use Rattle.chip.specs.declared.Call.{Call}
 use Rattle.chip.specs.declared.Control.{Control}
 use Rattle.chip.specs.Operations.{Operation, access, precharge, duplicate, read_block, write_block, data_read, data_write, write_tag, write_register, read_register, video_transfer, video_clock, unknown, operation}
-use Rattle.chip.specs.Answers.{GivenBack, numbered, effect_given, given_back}
+use Rattle.bits.specs.Bits.{digit}
+use Rattle.chip.specs.Answers.{GivenBack, done_with, numbered, effect_given, given_back}
 use Rattle.chip.specs.Refusals.{asks, call_tests, number}
 use Rattle.chip.specs.Calls.{effect_in, given_with, chip_with, memory_with}
 use Rattle.chip.specs.Promises.{NumbersGiven, RefusalChangesNothing}
@@ -68,42 +70,31 @@ refusal_changes_nothing n chip memory x f = go (number n chip.control (length me
     go zero e = absurd (f e)
     go (suc k) e = (rw e, rw e, rw e)
 
+-- a refusal passed on
+pub passed_on : (r : Result Done Refusal) (refusal : Refusal) → IsErrAnd r (λ e. e ≡ refusal) → given_back r ≡ numbered (refusal_number refusal)
+passed_on (Ok done) refusal is = absurd is
+passed_on (Err other) refusal is = rw is
+
 -- ---- equal numbers and values are equal answers
 
 -- the answer that has this number and these values
-from : GivenBack → Answer
+from : GivenBack → Result Done Refusal
 from g = cond (eqb g.number 0)
-    (Done g.value (eqb g.pass 1) (eqb g.written 1))
-    (Refused (get_or
-    (IllFormed
-    ∷ MemoryLength
-    ∷ UnknownOperation
-    ∷ OperandOutside
-    ∷ BitNotAllowed
-    ∷ BankOpen
-    ∷ BankClosed
-    -- 8 and 9 are no refusals of a call
-    ∷ IllFormed
-    ∷ IllFormed
-    ∷ BufferInUse
-    ∷ [])
-    (g.number - 1) IllFormed))
+    (Ok (record { value = g.value; pass = eqb g.pass 1; written = eqb g.written 1 }))
+    (Err (refusal_of g.number))
 
-from_given : (a : Answer) → from (given_back a) ≡ a
+done_given : (value : ℕ) (pass written : Bool) → from (done_with value (digit pass) (digit written)) ≡ Ok (record { value = value; pass = pass; written = written })
 unfolding from
-from_given (Done value true true) = refl
-from_given (Done value true false) = refl
-from_given (Done value false true) = refl
-from_given (Done value false false) = refl
-from_given (Refused IllFormed) = refl
-from_given (Refused MemoryLength) = refl
-from_given (Refused UnknownOperation) = refl
-from_given (Refused OperandOutside) = refl
-from_given (Refused BitNotAllowed) = refl
-from_given (Refused BankOpen) = refl
-from_given (Refused BankClosed) = refl
-from_given (Refused BufferInUse) = refl
+done_given value true true = refl
+done_given value true false = refl
+done_given value false true = refl
+done_given value false false = refl
+
+from_given : (a : Result Done Refusal) → from (given_back a) ≡ a
+unfolding from
+from_given (Ok done) = done_given done.value done.pass done.written
+from_given (Err refusal) = refused_back _ refusal
 
 -- 01, Expected form: so the promise determines the answer
-pub answer_determined : (a b : Answer) → given_back a ≡ given_back b → a ≡ b
+pub answer_determined : (a b : Result Done Refusal) → given_back a ≡ given_back b → a ≡ b
 answer_determined = determined given_back from from_given

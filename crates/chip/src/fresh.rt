@@ -4,7 +4,7 @@ ghost use Rattle.chip.specs.State.{fresh_of};
 ghost use Rattle.chip.specs.Answers.{given_back};
 ghost use Rattle.chip.specs.Calls.{fresh_given, fresh_chip};
 
-use super::{Answer, Answered, CLOSED, Chip, Control, Refusal, Scan};
+use super::{Answered, CLOSED, Chip, Control, Refusal, Scan, answers};
 
 // A fresh chip with so many pages to a bank.
 pub fn fresh(pages: u16) -> Chip
@@ -36,16 +36,12 @@ pub fn make_fresh(chip: Chip, pages: u32) -> Answered
 {
     if !layout::memory::pages_fit(pages) {
         return Answered {
-            answer: Answer::Refused(Refusal::OperandOutside),
+            answer: Err(Refusal::OperandOutside),
             chip: chip,
         };
     }
     Answered {
-        answer: Answer::Done {
-            value: 0,
-            pass: false,
-            written: false,
-        },
+        answer: answers::done(0),
         chip: fresh(pages as u16),
     }
 }

@@ -8,10 +8,9 @@ use lib.Dec.{eqb}
 use lib.ListN.{get_or}
 use Rattle.numbers.proofs.Tests.{determined}
 use Rattle.columns.specs.Columns.{table, column_entry, ColumnGiven, found_given, column_byte, column_bytes, filled_number}
-use Rattle.columns.specs.declared.Column.{Column}
-use Rattle.columns.specs.declared.Column.TheVariants.{Entry, OffScreen}
-use Rattle.columns.specs.declared.Filled.{Filled}
-use Rattle.columns.specs.declared.Filled.TheVariants.{Whole, WrongLength}
+use Rattle.std.specs.Prelude.{Result, Ok, Err, ⊤}
+use Rattle.numbers.specs.declared.Refusal.{Refusal}
+use Rattle.numbers.proofs.Refusals.{refusal_of, refused_back}
 use Rattle.columns.proofs.Tables.{get_or_table}
 
 pub entry_lt : (x : ℕ) → x < 1280 → column_entry x < 2048
@@ -43,25 +42,25 @@ entry_read_back x h =
 
 -- ---- equal numbers and entries are equal answers
 
-found : ColumnGiven → Column
-found g = cond (eqb g.number 0) (Entry g.entry) OffScreen
+found : ColumnGiven → Result ℕ Refusal
+found g = cond (eqb g.number 0) (Ok g.entry) (Err (refusal_of g.number))
 
-found_given_lem : (a : Column) → found (found_given a) ≡ a
+found_given_lem : (a : Result ℕ Refusal) → found (found_given a) ≡ a
 unfolding found
-found_given_lem (Entry entry) = refl
-found_given_lem OffScreen = refl
+found_given_lem (Ok entry) = refl
+found_given_lem (Err refusal) = refused_back _ refusal
 
 -- 01, Expected form: so the promise determines the answer
-pub column_determined : (a b : Column) → found_given a ≡ found_given b → a ≡ b
+pub column_determined : (a b : Result ℕ Refusal) → found_given a ≡ found_given b → a ≡ b
 column_determined = determined found_given found found_given_lem
 
-filled : ℕ → Filled
-filled number = cond (eqb number 0) Whole WrongLength
+filled : ℕ → Result ⊤ Refusal
+filled number = cond (eqb number 0) (Ok _) (Err (refusal_of number))
 
-filled_given : (a : Filled) → filled (filled_number a) ≡ a
+filled_given : (a : Result ⊤ Refusal) → filled (filled_number a) ≡ a
 unfolding filled
-filled_given Whole = refl
-filled_given WrongLength = refl
+filled_given (Ok done) = refl
+filled_given (Err refusal) = refused_back _ refusal
 
-pub filled_determined : (a b : Filled) → filled_number a ≡ filled_number b → a ≡ b
+pub filled_determined : (a b : Result ⊤ Refusal) → filled_number a ≡ filled_number b → a ≡ b
 filled_determined = determined filled_number filled filled_given

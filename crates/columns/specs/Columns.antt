@@ -1,10 +1,8 @@
 -- The column table: 1,280 column numbers, and the same as bytes. Assumes nothing.
-use Rattle.std.specs.Prelude.{not, List, [], ◌∷◌, ℕ, zero, suc, ◌+◌, ◌*◌, ◌/◌, ◌%◌, ◌^◌, eqb, ltb, length}
+use Rattle.std.specs.Prelude.{Result, Ok, Err, ⊤, not, List, [], ◌∷◌, ℕ, zero, suc, ◌+◌, ◌*◌, ◌/◌, ◌%◌, ◌^◌, eqb, ltb, length}
+use Rattle.numbers.specs.declared.Refusal.{Refusal}
 use Rattle.numbers.specs.Numbers.{first, when_done}
-use Rattle.columns.specs.declared.Column.{Column}
-use Rattle.columns.specs.declared.Column.TheVariants.{Entry, OffScreen}
-use Rattle.columns.specs.declared.Filled.{Filled}
-use Rattle.columns.specs.declared.Filled.TheVariants.{Whole, WrongLength}
+use Rattle.numbers.specs.Refusals.{refusal_number}
 
 -- the list of n entries whose entry k is f k
 unfoldable pub table : ℕ → (ℕ → ℕ) → List ℕ
@@ -36,9 +34,9 @@ unfoldable pub column_given : ℕ → ColumnGiven
 column_given x = record { number = column_number x; entry = entry_given x }
 
 -- 01, Expected form: an enum, and this paper's number and values for each of its cases
-abbrev pub found_given : Column → ColumnGiven
-found_given (Entry entry) = record { number = 0; entry = entry }
-found_given OffScreen = record { number = 8; entry = 0 }
+abbrev pub found_given : Result ℕ Refusal → ColumnGiven
+found_given (Ok entry) = record { number = 0; entry = entry }
+found_given (Err refusal) = record { number = refusal_number refusal; entry = 0 }
 
 -- ---- 01, Memory: the C drawing program indexes columns: the table in its own buffer, 1,280 entries of 16 bits, the lower byte first
 
@@ -58,6 +56,6 @@ unfoldable pub columns_left : List ℕ → List ℕ
 columns_left buffer = when_done (columns_number (length buffer)) column_bytes buffer
 
 -- 01, Expected form: an enum, and this paper's number for each of its cases
-abbrev pub filled_number : Filled → ℕ
-filled_number Whole = 0
-filled_number WrongLength = 4
+abbrev pub filled_number : Result ⊤ Refusal → ℕ
+filled_number (Ok done) = 0
+filled_number (Err refusal) = refusal_number refusal

@@ -2,39 +2,35 @@
 ghost use Rattle.std.specs.Prelude.{◌≡◌, length};
 ghost use Rattle.columns.specs.Columns.{column_given, found_given, columns_number, columns_left, filled_number};
 
-use super::{Column, Filled, table};
+use super::table;
 use layout::screen::WIDTH;
-
-const ENTRIES: usize = 1280;
+use numbers::Refusal;
 
 const TABLE_BYTES: usize = 2560;
 
 // The table's entry for x. It costs a copy of the table, as every index into a constant array does: who asks often fills a buffer once.
-pub fn column(x: u32) -> Column
+pub fn column(x: u32) -> Result<u16, Refusal>
     ensures { found_given result ≡ column_given x }
 {
     if x >= WIDTH {
-        return Column::OffScreen;
+        return Err(Refusal::OffScreen);
     }
     let entries = table::columns();
-    Column::Entry(entries[x as usize])
+    Ok(entries[x as usize])
 }
 
 // Fills a buffer of 2,560 bytes with the table, 16 bits an entry, the lower byte first. A buffer of another length stays as it is.
 // The table is copied before the loop, since an index into the constant in the loop would copy it at each turn.
-pub fn fill(buffer: &mut [u8]) -> Filled
+pub fn fill(buffer: &mut [u8]) -> Result<(), Refusal>
     ensures { (filled_number result ≡ columns_number (length buffer.old)) × (buffer.new ≡ columns_left buffer.old) }
 {
     if buffer.len() != TABLE_BYTES {
-        return Filled::WrongLength;
+        return Err(Refusal::OperandOutside);
     }
     let entries = table::columns();
-    let mut x: usize = 0;
-    while x < ENTRIES {
-        let entry = entries[x];
+    for (x, entry) in entries.iter().enumerate() {
         buffer[2 * x] = (entry % 256) as u8;
         buffer[2 * x + 1] = (entry / 256) as u8;
-        x += 1;
     }
-    Filled::Whole
+    Ok(())
 }

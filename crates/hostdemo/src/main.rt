@@ -7,20 +7,25 @@ ghost use Rattle.chip.specs.Answers.{given_back};
 ghost use Rattle.chip.specs.Calls.{call_given, chip_of, memory_of, fresh_given, fresh_chip};
 
 use block::places;
-use chip::{Answer, Answered, Call, Chip, Control, Scan};
+use chip::{Answer, Answered, Call, Chip, Control, Scan, answers};
+use layout::ScanLine;
+use lists::LittleEndian;
+
+// The scan line on which the word stands.
+const FIRST_LINE: ScanLine = ScanLine {
+    bank: 0,
+    page: 0,
+    line: 0,
+};
 
 // Says what a call answered. The answer is taken apart before its value is read. A line that cannot be written is let go, here and in `show`.
 fn tell(rt: &impl Print, name: &str, answer: Answer) {
-    let Answer::Done {
-        value,
-        pass: _,
-        written: _,
-    } = answer
-    else {
+    let Ok(done) = answer else {
         let number = chip::answers::number(answer);
         println!(rt; "{name}: refused with {number}").is_ok();
         return;
     };
+    let value = done.value;
     println!(rt; "{name}: done, value {value}").is_ok();
 }
 
@@ -58,15 +63,15 @@ fn step(rt: &impl Print, name: &str, chip: Chip, memory: &mut [u8], x: Call) -> 
 }
 
 // Shows the first word of a scan line, or says with which number it is refused.
-fn show(rt: &impl Print, control: Control, memory: &[u8], bank: u32, page: u32, line: u32) {
-    let shown = hosts::display::scan_line(control, memory, bank, page, line);
-    if shown.len() < 4 {
-        let number = hosts::display::scan_line_number(control, memory.len(), bank, page, line);
+fn show(rt: &impl Print, control: Control, memory: &[u8], named: ScanLine) {
+    if let Err(refusal) = hosts::display::find_line(control, memory.len(), named) {
+        let number = u32::from(refusal);
         println!(rt; "scan line: refused with {number}").is_ok();
-        return;
     }
-    let word = bits::join(shown[0], shown[1], shown[2], shown[3]);
-    println!(rt; "scan line: begins with {word}").is_ok();
+    if let [a, b, c, d, ..] = hosts::display::scan_line(control, memory, named) {
+        let word = bits::join(*a, *b, *c, *d);
+        println!(rt; "scan line: begins with {word}").is_ok();
+    }
 }
 
 fn call(op: u32, a: u32, b: u32, c: u32, d: u32, given: u32) -> Call {
@@ -95,9 +100,9 @@ fn draw(rt: &impl Print, loaded: Chip, memory: &mut [u8]) -> Chip {
 
 // A word that waits in the pixel buffer is not on the scan line: it is there after the write-back.
 fn write_back(rt: &impl Print, drawn: Chip, memory: &mut [u8]) -> Chip {
-    show(rt, drawn.control, memory, 0, 0, 0);
+    show(rt, drawn.control, memory, FIRST_LINE);
     let back = step(rt, "write block", drawn, memory, call(5, 0, 0, 0, 0, 0));
-    show(rt, back.control, memory, 0, 0, 0);
+    show(rt, back.control, memory, FIRST_LINE);
     back
 }
 
@@ -111,30 +116,33 @@ fn scan_out(rt: &impl Print, back: Chip, memory: &mut [u8]) -> Chip {
 fn as_the_base_kept_it(state: [u8; places::BLOCK_BYTES]) -> [u8; places::VIDEO_AT] {
     let mut base = [0u8; places::VIDEO_AT];
     stored::put_bytes(&mut base, 0, &state[0..places::VIDEO_AT]);
-    lists::put_half(&mut base, places::LENGTH_AT, places::VIDEO_AT as u16);
+    (places::VIDEO_AT as u16).put(&mut base, places::LENGTH_AT);
     base
 }
 
-// Keeps the chip as a state block, as before a host stops, and reads it back over a chip that is not well formed. An older block is read too.
+// Keeps the chip as a state block, as before a host stops, and reads it back. An older block is read too.
 fn kept(rt: &impl Print, chip: Chip) -> Chip {
     let mut state = [0u8; places::BLOCK_BYTES];
     tell(rt, "keep", hosts::kept::keep(chip, &mut state));
-    let back = hosts::kept::read(ill_formed(), &state);
-    tell(rt, "read", back.answer);
-    let base = as_the_base_kept_it(state);
-    let older = hosts::kept::read(ill_formed(), &base);
-    tell(rt, "read of 348 bytes", older.answer);
-    back.chip
+    let back = hosts::kept::read(&state);
+    tell(rt, "read", back.and(answers::done(0)));
+    let older = hosts::kept::read(&as_the_base_kept_it(state));
+    tell(rt, "read of 348 bytes", older.and(answers::done(0)));
+    back.unwrap_or(ill_formed())
 }
 
 // Page 1 is not below P, the bank is open already, and the selected video buffer is not yet put out whole.
 fn be_refused(rt: &impl Print, chip: Chip, memory: &mut [u8]) {
-    show(rt, chip.control, memory, 0, 1, 0);
+    let of_page_1 = ScanLine {
+        page: 1,
+        ..FIRST_LINE
+    };
+    show(rt, chip.control, memory, of_page_1);
     step(rt, "access page", chip, memory, call(1, 0, 0, 0, 0, 0));
     step(rt, "video transfer", chip, memory, call(16, 0, 0, 0, 0, 0));
 }
 
-// A chip of no pages, which is not well formed.
+// A chip of no pages, which is not well formed. Written out, since a derived `Default` has no arrays so long.
 fn ill_formed() -> Chip {
     Chip {
         control: Control {

@@ -1,6 +1,8 @@
 -- Demand 2 for hosts: a chip kept as a state block, and read back. Assumes nothing.
-use Rattle.std.specs.Prelude.{◌≡◌, not, ◌&&◌, List, [], ◌∷◌, ℕ, eqb, length}
+use Rattle.std.specs.Prelude.{Result, Ok, Err, ◌≡◌, not, ◌&&◌, List, [], ◌∷◌, ℕ, eqb, length}
+use Rattle.numbers.specs.declared.Refusal.{Refusal}
 use Rattle.numbers.specs.Numbers.{first, when_done}
+use Rattle.numbers.specs.Refusals.{refusal_number}
 use Rattle.lists.specs.Words.{Bytes}
 use Rattle.chip.specs.declared.Chip.{Chip}
 use Rattle.chip.specs.State.{well_formed}
@@ -23,6 +25,11 @@ read_number s = first ((1, not (readable s)) ∷ [])
 -- the chip after it, where a chip is handed in
 unfoldable pub read_chip : Chip → List ℕ → Chip
 read_chip chip s = when_done (read_number s) (decode (grown s)) chip
+
+-- 01, Expected form: an enum, and this paper's number for each of its cases
+abbrev pub number_read : Result Chip Refusal → ℕ
+number_read (Ok chip) = 0
+number_read (Err refusal) = refusal_number refusal
 
 -- ---- the round trips, as statements. Proved in proofs/KeptBack.antt
 

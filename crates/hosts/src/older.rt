@@ -5,6 +5,7 @@ ghost use Rattle.block.specs.Block.{block_bytes};
 ghost use Rattle.hosts.specs.Grown.{length_at, grown, says_length};
 
 use block::places;
+use lists::LittleEndian;
 
 // Document 01's block ends where the video buffers start.
 const BASE_BYTES: usize = places::VIDEO_AT;
@@ -17,7 +18,7 @@ pub fn says_its_length(state: &[u8]) -> bool
     if !((length == places::BLOCK_BYTES) | (length == BASE_BYTES)) {
         return false;
     }
-    lists::half_at(state, places::LENGTH_AT) as usize == length
+    u16::get(state, places::LENGTH_AT) as usize == length
 }
 
 // The block in the newest form: what an older one lacks is 0, and its header says the newest length.
@@ -27,6 +28,6 @@ pub fn grown(state: &[u8]) -> [u8; places::BLOCK_BYTES]
 {
     let mut s = [0; places::BLOCK_BYTES];
     stored::put_bytes(&mut s, 0, state);
-    lists::put_half(&mut s, places::LENGTH_AT, places::BLOCK_BYTES as u16);
+    (places::BLOCK_BYTES as u16).put(&mut s, places::LENGTH_AT);
     s
 }

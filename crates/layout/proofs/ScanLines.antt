@@ -1,15 +1,19 @@
 -- A scan line that is given lies in memory, and one that is refused is empty. Assumes nothing.
-use mathlib.Core.Path.{◌≡◌}
+use mathlib.Core.Path.{◌≡◌, refl, sym, ap, ◌∙◌}
 use mathlib.Core.Logic.{◌≢◌}
-use mathlib.Core.Bool.{true, ◌&&◌}
+use mathlib.Core.Bool.{true, cond, ◌&&◌}
 use mathlib.Core.List.{List, []}
+use Rattle.std.specs.Prelude.{Result, Ok, Err}
 use Prim.Native.Nat.{ℕ, ◌+◌, ◌*◌, ◌<◌, ◌≤◌}
 use native.Mathlib.Omega.{arith}
-use lib.Dec.{leb, ltb}
+use lib.Dec.{eqb, leb, ltb}
 use lib.ListN.{length, length-take, length-drop}
 use borrow.Author.Tests.{ltb-true, leb-true, eqb-true, not-false}
-use Rattle.layout.specs.Memory.{pages_fit, size, in_bank, place, on_line, line_start, scan_line, line_tests, line_number, line_given}
-use Rattle.numbers.proofs.Tests.{none_applies, and_left, and_right, given_done, given_refused}
+use Rattle.layout.specs.Memory.{pages_fit, size, in_bank, place, on_line, line_start, scan_line, line_tests, line_number, LinePlaced, line_placed, placed_given, line_given}
+use Rattle.numbers.specs.declared.Refusal.{Refusal}
+use Rattle.numbers.specs.Refusals.{refusal_number}
+use Rattle.numbers.proofs.Refusals.{refusal_between, refusal_of, refused_back}
+use Rattle.numbers.proofs.Tests.{determined, none_applies, and_left, and_right, given_done, given_refused}
 use Rattle.layout.proofs.Places.{place_lt}
 
 -- the test of P, as numbers
@@ -48,6 +52,29 @@ module _ (P len bank page line : ℕ) where
         line_lt = ltb-true line 16 (and_right (ltb bank 4 && ltb page P) (ltb line 16) inside);
       }
 
+  -- where code has found a line, it has passed and starts there
+  pub found : {r : Result ℕ Refusal} {start : ℕ} → placed_given r ≡ line_placed P len bank page line → r ≡ Ok start
+      → (line_number P len bank page line ≡ 0) × (start ≡ line_start P bank page line)
+  unfolding line_placed
+  found e is =
+      let told : record { number = 0; start = _ } ≡ line_placed P len bank page line = sym (ap placed_given is) ∙ e in
+      let number : line_number P len bank page line ≡ 0 = sym (ap (λ (g : LinePlaced). g.number) told) in
+      (number, ap (λ (g : LinePlaced). g.start) told ∙ given_done _ _ _ number)
+
+  pub found_inside : {r : Result ℕ Refusal} {start : ℕ} → placed_given r ≡ line_placed P len bank page line → r ≡ Ok start → start + 80 ≤ size P
+  found_inside e is =
+      let f = found e is in
+      let p = passed f.0 in
+      rw f.1 (line_fits P bank page line p.bank_lt p.page_lt p.line_lt)
+
+  -- and where it is refused one, none is given
+  pub not_found : {r : Result ℕ Refusal} {refusal : Refusal} → placed_given r ≡ line_placed P len bank page line → r ≡ Err refusal
+      → line_number P len bank page line ≢ 0
+  unfolding line_placed
+  not_found {refusal = refusal} e is none =
+      let told : refusal_number refusal ≡ line_number P len bank page line = ap (λ (g : LinePlaced). g.number) (sym (ap placed_given is) ∙ e) in
+      omega (arith, told, none, (refusal_between refusal).0)
+
 module _ (P bank page line : ℕ) (memory : List ℕ) where
   -- its 80 bytes are in the lent memory
   pub line_inside : line_number P (length memory) bank page line ≡ 0 → line_start P bank page line + 80 ≤ length memory
@@ -68,3 +95,18 @@ module _ (P bank page line : ℕ) (memory : List ℕ) where
   line_length e =
       let inside = line_inside e in
       rw (line_given_lem e) (simp (length-take, length-drop) (omega arith))
+
+-- ---- equal numbers and starts are equal answers
+
+-- the answer that has a number and a start
+from : LinePlaced → Result ℕ Refusal
+from g = cond (eqb g.number 0) (Ok g.start) (Err (refusal_of g.number))
+
+from_placed : (a : Result ℕ Refusal) → from (placed_given a) ≡ a
+unfolding from
+from_placed (Ok start) = refl
+from_placed (Err refusal) = refused_back _ refusal
+
+-- 01, Expected form: so the promise determines the answer
+pub placed_determined : (a b : Result ℕ Refusal) → placed_given a ≡ placed_given b → a ≡ b
+placed_determined = determined placed_given from from_placed

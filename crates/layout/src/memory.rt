@@ -1,6 +1,9 @@
 // The lent memory: its pages, and the blocks and scan lines of a page. The definitions are specs/Memory.antt.
 ghost use Rattle.std.specs.Prelude.{◌≡◌, ◌+◌, ◌<◌, ◌≤◌, length};
-ghost use Rattle.layout.specs.Memory.{pages_fit, size, in_page, line_start, line_number, line_given};
+ghost use Rattle.layout.specs.Memory.{pages_fit, size, in_page, line_start, placed_given, line_placed, line_given};
+
+use super::ScanLine;
+use numbers::Refusal;
 
 pub const LINE_BYTES: usize = 80;
 
@@ -24,37 +27,36 @@ pub fn in_page(block: usize, i: usize) -> usize
     (block % 4 * 4 + i / 8) * LINE_BYTES + (block / 4 * 8 + i % 8)
 }
 
-// The number that a scan line of a memory of this length gives, where P fits: 0 where there is one.
-pub fn line_number(length: usize, pages: u32, bank: u32, page: u32, line: u32) -> u32
+// Where the 80 bytes of a scan line start in memory.
+pub fn line_start(pages: u32, named: ScanLine) -> usize
+    requires { (pages ≤ 257) × (named.bank < 4) × (named.page < pages) × (named.line < 16) }
+    ensures { (result ≡ line_start pages named.bank named.page named.line) × (result + 80 ≤ size pages) }
+{
+    let bank_start = named.bank as usize * (pages as usize * PAGE_BYTES);
+    bank_start + (named.page as usize * PAGE_BYTES + named.line as usize * LINE_BYTES)
+}
+
+// The same of any scan line and a memory of this length, where P fits: where it starts, or why there is none.
+pub fn find_line(length: usize, pages: u32, named: ScanLine) -> Result<usize, Refusal>
     requires { (1 ≤ pages) × (pages ≤ 257) }
-    ensures { result ≡ line_number pages length bank page line }
+    ensures { placed_given result ≡ line_placed pages length named.bank named.page named.line }
 {
     if length != 4 * (pages as usize * PAGE_BYTES) {
-        return 2;
+        return Err(Refusal::MemoryLength);
     }
-    if (bank < 4) & (page < pages) & (line < 16) {
-        return 0;
+    if !((named.bank < 4) & (named.page < pages) & (named.line < 16)) {
+        return Err(Refusal::OperandOutside);
     }
-    4
+    Ok(line_start(pages, named))
 }
 
-// Where the 80 bytes of a scan line start in memory.
-pub fn line_start(pages: u32, bank: u32, page: u32, line: u32) -> usize
-    requires { (pages ≤ 257) × (bank < 4) × (page < pages) × (line < 16) }
-    ensures { (result ≡ line_start pages bank page line) × (result + 80 ≤ size pages) }
-{
-    let bank_start = bank as usize * (pages as usize * PAGE_BYTES);
-    bank_start + (page as usize * PAGE_BYTES + line as usize * LINE_BYTES)
-}
-
-// A scan line: that part of memory, not copied, or a part of length 0 where line_number is not 0.
-pub fn scan_line(memory: &[u8], pages: u32, bank: u32, page: u32, line: u32) -> &[u8]
+// A scan line: that part of memory, not copied, or a part of length 0 where there is none.
+pub fn scan_line(memory: &[u8], pages: u32, named: ScanLine) -> &[u8]
     requires { (1 ≤ pages) × (pages ≤ 257) }
-    ensures { result.now ≡ line_given pages bank page line memory.now }
+    ensures { result.now ≡ line_given pages named.bank named.page named.line memory.now }
 {
-    if line_number(memory.len(), pages, bank, page, line) != 0 {
+    let Ok(start) = find_line(memory.len(), pages, named) else {
         return &memory[0..0];
-    }
-    let start = line_start(pages, bank, page, line);
+    };
     &memory[start..start + LINE_BYTES]
 }

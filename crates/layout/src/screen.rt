@@ -2,8 +2,9 @@
 ghost use Rattle.std.specs.Prelude.{◌≡◌};
 ghost use Rattle.layout.specs.Screen.{point_bank, point_page, on_screen, point_at, point_given, pointed_given};
 
+use super::Point;
 use super::memory::pages_fit;
-use super::{Point, Pointed};
+use numbers::Refusal;
 
 pub const WIDTH: u32 = 1280;
 
@@ -43,14 +44,14 @@ fn place_of(x: u32, y: u32) -> Point
 }
 
 // The screen point (x, y), in a memory of so many pages to a bank. P is tested first.
-pub fn point(pages: u32, x: u32, y: u32) -> Pointed
+pub fn point(pages: u32, x: u32, y: u32) -> Result<Point, Refusal>
     ensures { pointed_given result ≡ point_given pages x y }
 {
     if !pages_fit(pages) {
-        return Pointed::PagesOutside;
+        return Err(Refusal::OperandOutside);
     }
     if !on_screen(pages, x, y) {
-        return Pointed::OffScreen;
+        return Err(Refusal::OffScreen);
     }
-    Pointed::At(place_of(x, y))
+    Ok(place_of(x, y))
 }

@@ -1,25 +1,26 @@
 -- Reading a line a byte at a time gives what specs/Lines says of the whole line; its number and call say which answer it is. Assumes nothing.
 use mathlib.Core.Path.{◌≡◌, refl, ap, ◌∙◌}
-use mathlib.Core.Bool.{Bool, true, false, cond, not, ◌&&◌, and-false, and-true, and_assoc}
+use mathlib.Core.Bool.{Bool, true, false, cond, not, ◌&&◌}
 use mathlib.Core.List.{List, [], ◌∷◌, ◌++◌}
-use Prim.Native.Nat.{ℕ, suc, ◌+◌, ◌-◌, ◌*◌, ◌^◌, ◌≤◌, ◌<◌}
-use native.Mathlib.Decide.{dec_lt}
-use native.Mathlib.Nat.{add-zero, zero-add}
+use Rattle.std.specs.Prelude.{Option, Some, None, Result, Ok, Err}
+use Prim.Native.Nat.{ℕ, ◌+◌, ◌-◌, ◌*◌, ◌^◌, ◌≤◌, ◌<◌}
+use native.Mathlib.Nat.{zero-add}
 use native.Mathlib.Omega.{arith}
-use native.Mathlib.Numerals.{add-one}
-use lib.Dec.{eqb, leb, ltb, eqb-suc-suc}
+use Rattle.std.proofs.lemmas.Bool.Decides.{nat_tests}
+use lib.Dec.{eqb, leb, ltb}
 use lib.ListN.{length, get_or}
-use borrow.Author.Tests.{lt-ltb, le-ltb, le-leb, lt-leb, ne_eqb, eqb-true}
+use borrow.Author.Tests.{eqb-true}
 use Rattle.numbers.specs.Numbers.{first, when_done}
 use Rattle.numbers.proofs.Tests.{determined}
+use Rattle.numbers.specs.declared.Refusal.{Refusal}
+use Rattle.numbers.proofs.Refusals.{refusal_of, refused_back}
 use Rattle.chip.specs.declared.Call.{Call}
 use Rattle.chip.specs.Operations.{ask}
+use Rattle.lines.specs.declared.reader.SoFar.{SoFar}
 use Rattle.lines.specs.declared.reader.Reader.{Reader}
-use Rattle.lines.specs.declared.reader.Parsed.{Parsed}
-use Rattle.lines.specs.declared.reader.Parsed.TheVariants.{Read, NotALine}
+use Rattle.lines.specs.declared.reader.Reader.TheVariants.{Empty, Reading, Spoilt}
 use Rattle.lines.specs.Lines.{onto, split, is_digit, all_digits, decimal, is_number, all_numbers, text_number, line_call, TextGiven, is_call, no_call, text_given, parsed_given}
-use Rattle.lines.specs.ByByte.{started, spoilt, pushed, after_space, after_digit, after_byte, after_bytes, ended}
-use Rattle.lines.proofs.Steps.{space_too_soon, space_too_late, space_ends, digit_too_many, digit_too_much, digit_taken, byte_cases}
+use Rattle.lines.specs.ByByte.{started, none_yet, pushed, after_space, after_digit, after_next, reader_of, after_byte, after_bytes, ended, has_byte}
 
 -- ---- a line that goes on where a reader stands: its first piece goes on with the number that is being read
 
@@ -35,10 +36,16 @@ abbrev pushed_from : Call → ℕ → List (List ℕ) → Call
 pushed_from call value [] = call
 pushed_from call value (piece ∷ pieces) = pushed_from (pushed call (decimal value piece)) 0 pieces
 
-abbrev continued : Reader → List (List ℕ) → TextGiven
-continued r pieces = cond (r.sound && (eqb (r.whole + length pieces) 6 && numbers_from r.digits r.value pieces))
+-- what a line gives that goes on with these pieces, after some numbers, and where a reader stands
+abbrev goes_on : SoFar → List (List ℕ) → TextGiven
+goes_on r pieces = cond (eqb (r.whole + length pieces) 6 && numbers_from r.digits r.value pieces)
     (is_call (pushed_from r.call r.value pieces))
     no_call
+
+abbrev continued : Reader → List (List ℕ) → TextGiven
+continued Empty pieces = goes_on none_yet pieces
+continued (Reading r) pieces = goes_on r pieces
+continued Spoilt pieces = no_call
 
 -- digits only make a number larger
 grows : (value : ℕ) (piece : List ℕ) → value ≤ decimal value piece
@@ -48,41 +55,25 @@ grows value (x ∷ piece) = omega (arith, grows (value * 10 + (x - 48)) piece)
 
 -- ---- one byte
 
-module _ (r : Reader) (d : r.digits ≤ 10) (v : r.value < 2 ^ 32) (p : List ℕ) (ps : List (List ℕ)) where
-  at_space : continued (after_space r) (p ∷ ps) ≡ continued r ([] ∷ p ∷ ps)
-  unfolding all_digits decimal is_number all_numbers
-  at_space = go (dec_lt 0 r.digits) (dec_lt r.whole 5)
-    where
-      go : Dec (0 < r.digits) → Dec (r.whole < 5) → continued (after_space r) (p ∷ ps) ≡ continued r ([] ∷ p ∷ ps)
-      go (no f) w = rw (space_too_soon r (omega arith)) (simp (add-zero, lt-leb 1 r.digits (omega arith), and-false))
-      go (yes g) (no f) = rw (space_too_late r (omega arith)) (simp (ne_eqb (r.whole + length ([] ∷ p ∷ ps)) 6 (λ e. absurd (omega arith)), and-false))
-      go (yes g) (yes h) =
-          let same : r.whole + 1 + suc (length ps) ≡ r.whole + suc (suc (length ps)) = omega arith in
-          rw (space_ends r g h) (simp (add-zero, zero-add, same, le-leb 1 r.digits g, le-leb r.digits 10 d, lt-ltb r.value (2 ^ 32) v))
+module _ (r : SoFar) (d : r.digits ≤ 10) (v : r.value < 2 ^ 32) (p : List ℕ) (ps : List (List ℕ)) where
+  at_space : continued (reader_of (after_space r)) (p ∷ ps) ≡ goes_on r ([] ∷ p ∷ ps)
+  unfolding after_space all_digits decimal is_number all_numbers
+  at_space = grind (arith, nat_tests)
 
-  at_digit : (x : ℕ) → is_digit x ≡ true → continued (after_digit r x) (p ∷ ps) ≡ continued r ((x ∷ p) ∷ ps)
-  unfolding all_digits decimal
-  at_digit x e = go (dec_lt r.digits 10) (dec_lt (r.value * 10 + (x - 48)) (2 ^ 32))
-    where
-      go : Dec (r.digits < 10) → Dec (r.value * 10 + (x - 48) < 2 ^ 32) → continued (after_digit r x) (p ∷ ps) ≡ continued r ((x ∷ p) ∷ ps)
-      go (no f) w = rw (digit_too_many r x (omega arith)) (simp (lt-leb (r.digits + length (x ∷ p)) 10 (omega arith), and-false))
-      go (yes g) (no f) =
-          let much = grows (r.value * 10 + (x - 48)) p in
-          rw (digit_too_much r x (omega arith)) (simp (le-ltb (decimal (r.value * 10 + (x - 48)) p) (2 ^ 32) (omega arith), and-false))
-      go (yes g) (yes h) =
-          let same : r.digits + 1 + length p ≡ r.digits + suc (length p) = omega arith in
-          rw (digit_taken r x g h) (simp (same, e))
+  at_digit : (x : ℕ) → is_digit x ≡ true → continued (reader_of (after_digit r x)) (p ∷ ps) ≡ goes_on r ((x ∷ p) ∷ ps)
+  unfolding after_digit all_digits decimal
+  at_digit x e = let much = grows (r.value * 10 + (x - 48)) p in grind (arith, nat_tests)
 
-  at_other : (x : ℕ) → is_digit x ≡ false → continued spoilt (p ∷ ps) ≡ continued r ((x ∷ p) ∷ ps)
+  at_other : (x : ℕ) → is_digit x ≡ false → no_call ≡ goes_on r ((x ∷ p) ∷ ps)
   unfolding all_digits
-  at_other x e = simp (e, and-false)
+  at_other x e = grind (arith, nat_tests)
 
-  at_byte : (x : ℕ) → continued (after_byte r x) (p ∷ ps) ≡ continued r (cond (eqb x 32) ([] ∷ p ∷ ps) ((x ∷ p) ∷ ps))
-  unfolding after_byte
-  at_byte x = go (eqb x 32) (is_digit x) refl
+  at_next : (x : ℕ) → continued (reader_of (after_next r x)) (p ∷ ps) ≡ goes_on r (cond (eqb x 32) ([] ∷ p ∷ ps) ((x ∷ p) ∷ ps))
+  unfolding after_next
+  at_next x = go (eqb x 32) (is_digit x) refl
     where
       go : (space digit : Bool) → is_digit x ≡ digit
-          → continued (cond space (after_space r) (cond digit (after_digit r x) spoilt)) (p ∷ ps) ≡ continued r (cond space ([] ∷ p ∷ ps) ((x ∷ p) ∷ ps))
+          → continued (reader_of (cond space (after_space r) (cond digit (after_digit r x) None))) (p ∷ ps) ≡ goes_on r (cond space ([] ∷ p ∷ ps) ((x ∷ p) ∷ ps))
       go true digit e = at_space
       go false true e = at_digit x e
       go false false e = at_other x e
@@ -91,10 +82,26 @@ module _ (r : Reader) (d : r.digits ≤ 10) (v : r.value < 2 ^ 32) (p : List ℕ
 
 -- what every reader holds that has read from the start
 abbrev Bounded : Reader → Type 0
-Bounded r = (r.digits ≤ 10) × (r.value < 2 ^ 32)
+Bounded Empty = Unit {0}
+Bounded (Reading r) = (r.digits ≤ 10) × (r.value < 2 ^ 32)
+Bounded Spoilt = Unit {0}
+
+next_bounded : (r : SoFar) (x : ℕ) → r.digits ≤ 10 → r.value < 2 ^ 32 → Bounded (reader_of (after_next r x))
+unfolding after_next after_space after_digit
+next_bounded r x d v = grind (arith, nat_tests)
 
 stays_bounded : (r : Reader) (x : ℕ) → Bounded r → Bounded (after_byte r x)
-stays_bounded r x b = byte_cases r Bounded x (omega arith) (omega arith) (λ h g. omega arith)
+unfolding after_byte
+stays_bounded Empty x b = next_bounded none_yet x (omega arith) (omega arith)
+stays_bounded (Reading r) x b = next_bounded r x b.0 b.1
+stays_bounded Spoilt x b = tt
+
+at_byte : (r : Reader) → Bounded r → (p : List ℕ) (ps : List (List ℕ)) (x : ℕ)
+    → continued (after_byte r x) (p ∷ ps) ≡ continued r (cond (eqb x 32) ([] ∷ p ∷ ps) ((x ∷ p) ∷ ps))
+unfolding after_byte
+at_byte Empty b p ps x = at_next none_yet (omega arith) (omega arith) p ps x
+at_byte (Reading r) b p ps x = at_next r b.0 b.1 p ps x
+at_byte Spoilt b p ps x = refl
 
 -- some bytes, and then others
 pub bytes_append : (r : Reader) (a b : List ℕ) → after_bytes r (a ++ b) ≡ after_bytes (after_bytes r a) b
@@ -115,9 +122,9 @@ some_piece mark (x ∷ line) = go (eqb x mark) (split mark line)
 
 at_end : (r : Reader) → Bounded r → ended r ≡ continued r ([] ∷ [])
 unfolding ended all_digits decimal all_numbers
-at_end r b =
-    let last : eqb (r.whole + 1) 6 ≡ eqb r.whole 5 = ap (λ (n : ℕ). eqb n 6) (add-one r.whole) ∙ eqb-suc-suc r.whole 5 in
-    simp (add-zero, last, le-leb r.digits 10 b.0, lt-ltb r.value (2 ^ 32) b.1, and-true, and_assoc)
+at_end Empty b = refl
+at_end (Reading r) b = grind (arith, nat_tests)
+at_end Spoilt b = refl
 
 read_from : (line : List ℕ) (r : Reader) → Bounded r → ended (after_bytes r line) ≡ continued r (split 32 line)
 unfolding after_bytes split
@@ -126,13 +133,23 @@ read_from (x ∷ line) r b = read_from line (after_byte r x) (stays_bounded r x 
   where
     turn : (pieces : List (List ℕ)) → 1 ≤ length pieces → continued (after_byte r x) pieces ≡ continued r (cond (eqb x 32) ([] ∷ pieces) (onto x pieces))
     turn [] h = absurd (omega arith)
-    turn (p ∷ ps) h = at_byte r b.0 b.1 p ps x
+    turn (p ∷ ps) h = at_byte r b p ps x
 
 -- ---- a line has begun once it has a byte
 
-pub bytes_begin : (r : Reader) (x : ℕ) (line : List ℕ) → (after_bytes r (x ∷ line)).begun ≡ true
+next_begins : (next : Option SoFar) → has_byte (reader_of next) ≡ true
+next_begins (Some r) = refl
+next_begins None = refl
+
+byte_begins : (r : Reader) (x : ℕ) → has_byte (after_byte r x) ≡ true
+unfolding after_byte
+byte_begins Empty x = next_begins (after_next none_yet x)
+byte_begins (Reading r) x = next_begins (after_next r x)
+byte_begins Spoilt x = refl
+
+pub bytes_begin : (r : Reader) (x : ℕ) (line : List ℕ) → has_byte (after_bytes r (x ∷ line)) ≡ true
 unfolding after_bytes
-bytes_begin r x [] = byte_cases r (λ q. q.begun ≡ true) x refl refl (λ h g. refl)
+bytes_begin r x [] = byte_begins r x
 bytes_begin r x (y ∷ line) = bytes_begin (after_byte r x) y line
 
 -- ---- from the start
@@ -159,7 +176,7 @@ all_numbers_lem (p ∷ ps) h = simp zero-add
 -- 01, The small program: a line is six numbers exactly when the bytes are such a line
 pub read_whole : (line : List ℕ) → ended (after_bytes started line) ≡ text_given line
 unfolding text_given text_number line_call first
-read_whole line = read_from line started (omega arith) ∙ rw (zero-add, all_numbers_lem (split 32 line) (some_piece 32 line)) (go (eqb (length (split 32 line)) 6) (all_numbers (split 32 line)) refl)
+read_whole line = read_from line started tt ∙ rw (zero-add, all_numbers_lem (split 32 line) (some_piece 32 line)) (go (eqb (length (split 32 line)) 6) (all_numbers (split 32 line)) refl)
   where
     call : Call
     call = line_call line
@@ -173,14 +190,14 @@ read_whole line = read_from line started (omega arith) ∙ rw (zero-add, all_num
 
 -- ---- equal numbers and calls are equal answers
 
-from : TextGiven → Parsed
-from g = cond (eqb g.number 0) (Read g.call) NotALine
+from : TextGiven → Result Call Refusal
+from g = cond (eqb g.number 0) (Ok g.call) (Err (refusal_of g.number))
 
-from_given : (a : Parsed) → from (parsed_given a) ≡ a
+from_given : (a : Result Call Refusal) → from (parsed_given a) ≡ a
 unfolding from
-from_given (Read call) = refl
-from_given NotALine = refl
+from_given (Ok call) = refl
+from_given (Err refusal) = refused_back _ refusal
 
 -- 01, Expected form: so the promise determines the answer
-pub parsed_determined : (a b : Parsed) → parsed_given a ≡ parsed_given b → a ≡ b
+pub parsed_determined : (a b : Result Call Refusal) → parsed_given a ≡ parsed_given b → a ≡ b
 parsed_determined = determined parsed_given from from_given

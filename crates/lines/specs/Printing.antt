@@ -1,6 +1,5 @@
 -- 01, The small program: what it prints, as bytes. Assumes nothing.
-use Rattle.std.specs.Prelude.{◌≡◌, cond, List, [], ◌∷◌, ◌++◌, ℕ, zero, suc, ◌+◌, ◌/◌, ◌%◌, ltb, length, replicate}
-use Rattle.std.proofs.lemmas.List.Edits.{sets}
+use Rattle.std.specs.Prelude.{cond, List, [], ◌∷◌, ◌++◌, ℕ, zero, suc, ◌+◌, ◌/◌, ◌%◌, ltb, replicate}
 use Rattle.layout.specs.Memory.{size}
 use Rattle.chip.specs.State.{fresh_of}
 use Rattle.chip.specs.Answers.{GivenBack, four_numbers}
@@ -42,8 +41,3 @@ heading =
 -- 01, The small program: P = 2, zero memory and a fresh chip; a header, then one line a line read
 unfoldable pub output_of : List ℕ → List ℕ
 output_of input = heading ++ printed_each (replies (fresh_of 2) (replicate (size 2) 0) (lines_of input))
-
--- some bytes stored in a buffer from a place on: the place after them, and the buffer
-pub record Stored (before : List ℕ) (at : ℕ) (bytes after : List ℕ) (next : ℕ) : Type 0 where
-  pub place : next ≡ at + length bytes
-  pub buffer : after ≡ sets before at bytes

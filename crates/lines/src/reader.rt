@@ -1,27 +1,17 @@
 // Reading a line a byte at a time: a line of any length needs no room, and may come in pieces.
+#![tactic(auto, using(std::proofs::lemmas::Bool::Decides::nat_tests), unfolding(crate::specs::Lines::is_digit, crate::specs::ByByte::after_space, crate::specs::ByByte::after_digit, crate::specs::ByByte::after_next, crate::specs::ByByte::after_byte, crate::specs::ByByte::ended))]
+
 ghost use Rattle.std.specs.Prelude.{◌≡◌, ◌≤◌};
 ghost use Rattle.lines.specs.Lines.{parsed_given};
-ghost use Rattle.lines.specs.ByByte.{holding_none, started, spoilt, pushed, after_space, after_digit, after_byte, ended};
+ghost use Rattle.lines.specs.ByByte.{started, pushed, after_space, after_digit, after_next, after_byte, ended};
 
 use chip::Call;
+use numbers::Refusal;
 
-const SPACE: u8 = 32;
-
-// What a line is: six numbers, or number 9. Its number and its call are parsed_given of specs/Lines.antt.
-#[derive(Clone, Copy)]
-pub enum Parsed {
-    Read(Call),
-    NotALine,
-}
-
-// A line as far as it is read.
-#[derive(Clone, Copy)]
-pub struct Reader {
-    // it has a byte
-    pub begun: bool,
-    // it may still become six numbers
-    pub sound: bool,
-    // how many of its numbers are whole
+// The numbers of a line so far.
+#[derive(Clone, Copy, Default)]
+pub struct SoFar {
+    // how many of them are whole
     pub whole: u32,
     // the digits so far of the next one, and what they write
     pub digits: u32,
@@ -30,40 +20,15 @@ pub struct Reader {
     pub call: Call,
 }
 
-// A reader that holds no number.
-fn empty(begun: bool, sound: bool) -> Reader
-    ensures { result ≡ holding_none begun sound }
-{
-    let none = Call {
-        op: 0,
-        a: 0,
-        b: 0,
-        c: 0,
-        d: 0,
-        given: 0,
-    };
-    Reader {
-        begun: begun,
-        sound: sound,
-        whole: 0,
-        digits: 0,
-        value: 0,
-        call: none,
-    }
-}
-
-// Before the first byte.
-pub fn start() -> Reader
-    ensures { result ≡ started }
-{
-    empty(false, true)
-}
-
-// After a byte that no line has there: what follows cannot mend it.
-fn spoil() -> Reader
-    ensures { result ≡ spoilt }
-{
-    empty(true, false)
+// A line as far as it is read.
+#[derive(Clone, Copy)]
+pub enum Reader {
+    // it has no byte
+    Empty,
+    // it may still become six numbers
+    Reading(SoFar),
+    // it has a byte that no line has there, which no byte after it can mend
+    Spoilt,
 }
 
 // One number more. Each moves one place down, so that after six the first is the operation, and no place is counted.
@@ -80,74 +45,80 @@ fn push(call: Call, number: u32) -> Call
     }
 }
 
-// A space ends a number, which has a digit and is not the sixth.
-fn space(reader: Reader) -> Reader
-    ensures { result ≡ after_space reader }
-{
-    if reader.digits == 0 {
-        return spoil();
+impl SoFar {
+    // A space ends a number, which has a digit and is not the sixth.
+    fn space(self) -> Option<SoFar>
+        ensures { result ≡ after_space self }
+    {
+        if self.digits == 0 || 5 <= self.whole {
+            return None;
+        }
+        Some(SoFar {
+            whole: self.whole + 1,
+            digits: 0,
+            value: 0,
+            call: push(self.call, self.value),
+        })
     }
-    if 5 <= reader.whole {
-        return spoil();
+
+    // A digit more of a number: at most ten, and below 2^32.
+    fn digit(self, byte: u8) -> Option<SoFar>
+        requires { (48 ≤ byte) × (byte ≤ 57) }
+        ensures { result ≡ after_digit self byte }
+    {
+        if 10 <= self.digits {
+            return None;
+        }
+        let digit = (byte - b'0') as u32;
+        let value = self.value.checked_mul(10)?.checked_add(digit)?;
+        Some(SoFar {
+            digits: self.digits + 1,
+            value,
+            ..self
+        })
     }
-    let call = reader.call;
-    Reader {
-        begun: true,
-        sound: reader.sound,
-        whole: reader.whole + 1,
-        digits: 0,
-        value: 0,
-        call: push(call, reader.value),
+
+    // A byte more: a space, a digit, or what no line has.
+    fn next(self, byte: u8) -> Option<SoFar>
+        ensures { result ≡ after_next self byte }
+    {
+        match byte {
+            b' ' => self.space(),
+            b'0'..=b'9' => self.digit(byte),
+            _ => None,
+        }
     }
 }
 
-// A digit more of a number: at most ten, and below 2^32.
-fn digit(reader: Reader, byte: u8) -> Reader
-    requires { (48 ≤ byte) × (byte ≤ 57) }
-    ensures { result ≡ after_digit reader byte }
-{
-    let value = reader.value as u64 * 10 + (byte - 48) as u64;
-    if 10 <= reader.digits {
-        return spoil();
+impl Reader {
+    // Before the first byte.
+    pub fn start() -> Self
+        ensures { result ≡ started }
+    {
+        Self::Empty
     }
-    if 0x1_0000_0000 <= value {
-        return spoil();
-    }
-    let call = reader.call;
-    Reader {
-        begun: true,
-        sound: reader.sound,
-        whole: reader.whole,
-        digits: reader.digits + 1,
-        value: value as u32,
-        call: call,
-    }
-}
 
-// A byte more of a line: a space, a digit, or what no line has.
-pub fn step(reader: Reader, byte: u8) -> Reader
-    ensures { result ≡ after_byte reader byte }
-{
-    if byte == SPACE {
-        return space(reader);
+    // A byte more of a line.
+    pub fn step(&mut self, byte: u8)
+        ensures { self.new ≡ after_byte self.old byte }
+    {
+        let next = match *self {
+            Reader::Empty => SoFar::default().next(byte),
+            Reader::Reading(so_far) => so_far.next(byte),
+            Reader::Spoilt => None,
+        };
+        *self = next.map_or(Reader::Spoilt, Reader::Reading);
     }
-    if byte < 48 {
-        return spoil();
-    }
-    if 57 < byte {
-        return spoil();
-    }
-    digit(reader, byte)
-}
 
-// The end of a line: five numbers are whole, and the sixth has a digit.
-pub fn finish(reader: Reader) -> Parsed
-    ensures { parsed_given result ≡ ended reader }
-{
-    let complete = reader.sound & (reader.whole == 5) & (0 < reader.digits);
-    if !complete {
-        return Parsed::NotALine;
+    // The end of a line: five numbers are whole, and the sixth has a digit. Its number and its call are parsed_given of specs/Lines.antt.
+    pub fn finish(self) -> Result<Call, Refusal>
+        ensures { parsed_given result ≡ ended self }
+    {
+        match self {
+            Reader::Reading(so_far) if so_far.whole == 5 && 0 < so_far.digits => {
+                Ok(push(so_far.call, so_far.value))
+            }
+            Reader::Empty | Reader::Reading(_) | Reader::Spoilt => Err(Refusal::NotALine),
+        }
     }
-    let call = reader.call;
-    Parsed::Read(push(call, reader.value))
 }

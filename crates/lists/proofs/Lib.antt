@@ -4,3 +4,4 @@ pub mod Words
 pub mod Seams
 pub mod Rows
 pub mod RowStores
+pub mod RowReads

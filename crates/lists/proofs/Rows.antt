@@ -11,17 +11,13 @@ use lib.Seq.{get_or-append_seam, get_or-append-add, take-add, drop-drop, drop-co
 use Rattle.bits.specs.Bits.{byte}
 use Rattle.bits.proofs.Bytes.{join_bytes, byte_joined_0, byte_joined_1, byte_joined_2, byte_joined_3}
 use Rattle.lists.specs.Update.{update}
+use Rattle.lists.specs.Laws.{length_bytes, length_row}
 use Rattle.lists.specs.Words.{Bytes, half_at, put_half, word_at, put_word, bytes_from, as_bytes, numbers_at, halves, words, halves_at, words_at}
 use Rattle.lists.proofs.Updates.{length_update, update_same, update_at}
 use Rattle.lists.proofs.Seams.{update_front, update_behind, start_of, put_in, split_at, start_long}
 use Rattle.lists.proofs.Words.{half_at_lt, word_at_lt}
 
 -- ---- the bytes of one number
-
-length_bytes : (w n x : ℕ) → length (bytes_from w n x) ≡ w
-unfolding bytes_from
-length_bytes zero n x = refl
-length_bytes (suc w) n x = ap suc (length_bytes w (suc n) x)
 
 get_or_bytes : (w n x k : ℕ) → k < w → get_or (bytes_from w n x) k 0 ≡ byte x (n + k)
 unfolding bytes_from
@@ -40,22 +36,10 @@ over w x y =
 
 -- ---- a row
 
-pub length_row : (w : ℕ) (xs : List ℕ) → length (as_bytes w xs) ≡ w * length xs
-unfolding as_bytes
-length_row w [] = omega arith
-length_row w (x ∷ xs) =
-    let more : w + w * length xs ≡ w * suc (length xs) = rw (mul-suc w (length xs)) (omega arith) in
-    length-append (bytes_from w 0 x) (as_bytes w xs) ∙ ap₂ ◌+◌ (length_bytes w 0 x) (length_row w xs) ∙ more
-
 pub length_row_at : (w : ℕ) (reads : List ℕ → ℕ → ℕ) (n : ℕ) (s : List ℕ) (p : ℕ) → length (numbers_at w reads n s p) ≡ n
 unfolding numbers_at
 length_row_at w reads zero s p = refl
 length_row_at w reads (suc n) s p = ap suc (length_row_at w reads n s (p + w))
-
-pub row_append : (w : ℕ) (a b : List ℕ) → as_bytes w (a ++ b) ≡ as_bytes w a ++ as_bytes w b
-unfolding as_bytes
-row_append w [] b = refl
-row_append w (x ∷ a) b = rw (row_append w a b) (sym (append_assoc (bytes_from w 0 x) (as_bytes w a) (as_bytes w b)))
 
 next : (w p i : ℕ) → p + w + w * i ≡ p + w * suc i
 next w p i = rw (mul-suc w i) (omega arith)

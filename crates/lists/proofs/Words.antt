@@ -1,32 +1,17 @@
--- The laws of a number of 16 or of 32 bits in a list of bytes: its bytes, what is put and then read, and a loop that puts words. Assumes nothing.
+-- The laws of a number of 16 or of 32 bits in a list of bytes: its bytes, a part's, and a loop that puts words. Assumes nothing.
 use mathlib.Core.Path.{◌≡◌, sym, ap, ◌∙◌}
 use mathlib.Core.List.{List, [], ◌∷◌}
-use Prim.Native.Nat.{ℕ, zero, suc, ◌+◌, ◌*◌, ◌/◌, ◌%◌, ◌^◌, ◌<◌}
-use native.Mathlib.Nat.{add-zero, zero-add, add_assoc, mul-add, div-one, mod-eq_of_lt}
+use Prim.Native.Nat.{ℕ, zero, suc, ◌+◌, ◌*◌, ◌^◌, ◌<◌}
+use native.Mathlib.Nat.{add-zero, zero-add, add_assoc, mul-add}
 use native.Mathlib.Omega.{arith}
 use lib.Dec.{lit<}
-use lib.ListN.{length, get_or, set, take, drop}
-use lib.Pow.{shr_lt}
+use lib.ListN.{length, get_or, take, drop}
 use lib.Seq.{get_or-take, get_or-drop}
 use Rattle.bits.specs.Bits.{byte, word_in}
 use Rattle.bits.proofs.Bytes.{joined_lt, byte_word_in}
 use Rattle.lists.specs.Update.{update}
-use Rattle.lists.specs.Words.{Bytes, half_at, put_half, word_at, put_word}
+use Rattle.lists.specs.Words.{Bytes, half_at, word_at, put_word}
 use Rattle.lists.proofs.Updates.{length_update, update_at, update_ext, update_more, update_none}
-
--- the byte stores of code, one after the other
-pub half_stores : (p x : ℕ) (s : List ℕ) → x < 2 ^ 16 → set (set s p (x % 256)) (p + 1) (x / 256) ≡ put_half p x s
-unfolding put_half update byte
-half_stores p x s h =
-    let high : x / 256 % 256 ≡ x / 256 = mod-eq_of_lt (shr_lt 8 8 h) in
-    rw (add-zero p, div-one x, high)
-
-pub word_stores : (p x : ℕ) (s : List ℕ) → x < 2 ^ 32
-    → set (set (set (set s p (x % 256)) (p + 1) (x / 256 % 256)) (p + 2) (x / 65536 % 256)) (p + 3) (x / 16777216) ≡ put_word p x s
-unfolding put_word update byte
-word_stores p x s h =
-    let high : x / 16777216 % 256 ≡ x / 16777216 = mod-eq_of_lt (shr_lt 8 24 h) in
-    rw (add-zero p, div-one x, high)
 
 -- ---- a number is its bytes
 

@@ -37,7 +37,7 @@ as_bytes w [] = []
 as_bytes w (x ∷ xs) = bytes_from w 0 x ++ as_bytes w xs
 
 -- n of them, from place p on, where one is read so
-unfoldable pub numbers_at : ℕ → (List ℕ → ℕ → ℕ) → ℕ → List ℕ → ℕ → List ℕ
+unfoldable pub numbers_at : {A : Type 0} → ℕ → (List ℕ → ℕ → A) → ℕ → List ℕ → ℕ → List A
 numbers_at w reads zero s p = []
 numbers_at w reads (suc n) s p = reads s p ∷ numbers_at w reads n s (p + w)
 

@@ -1,3 +1,4 @@
 pub mod OwnLines
 pub mod Owns
 pub mod WellFormed
+pub mod Lines

@@ -1,6 +1,13 @@
 -- A call's own line as code goes through it: the test of its operands, then what it asks; what is left at each, and its end. Assumes nothing.
-use mathlib.Core.Path.{◌≡◌, ap, ◌∙◌}
-use mathlib.Core.Bool.{true, false, not, ◌&&◌, Bool}
+use mathlib.Core.Path.{◌≡◌, refl, sym, ap, ◌∙◌}
+use mathlib.Core.Bool.{true, false, not, cond, ◌&&◌, Bool, false≢true}
+use borrow.Author.Tests.{eq-eqb, eqb-true}
+use Rattle.std.specs.Prelude.{Result, Ok, Err, IsErrAnd}
+use Rattle.std.specs.Result.{is_ok, result_unwrap_or}
+use Rattle.numbers.specs.declared.Refusal.{Refusal}
+use Rattle.numbers.specs.declared.Refusal.TheVariants.{BankClosed}
+use Rattle.chip.specs.declared.Done.{Done}
+use Rattle.chip.proofs.NumbersGiven.{passed_on}
 use mathlib.Core.List.{List, [], ◌∷◌}
 use Prim.Native.Nat.{ℕ, suc, ◌<◌, ◌≤◌}
 use lib.Dec.{eqb, ltb}
@@ -15,14 +22,14 @@ use Rattle.chip.specs.Video.{video_byte, put_out}
 use Rattle.chip.specs.State.{slots, closed, open_page, is_closed}
 use Rattle.chip.specs.Operations.{Operation, row, operation, all_zero, in_range}
 use Rattle.chip.specs.Effects.{Effect, reading, slot_byte, effect, pixels_after, memory_after, video_after, still, giving}
-use Rattle.chip.specs.Answers.{GivenBack, done_with, numbered, effect_given}
+use Rattle.chip.specs.Answers.{GivenBack, given_back, done_with, numbered, effect_given}
 use Rattle.chip.specs.Refusals.{asks, operands_fit, call_tests}
 use Rattle.chip.specs.Calls.{read_in, chip_after}
 use Rattle.chip.proofs.Accepted.{page_range, block_range}
 use Rattle.block.specs.Block.{encode, decode_control, pixels_in, video_in, decode, ticked_in, well_formed_block}
 use Rattle.block.proofs.Parts.{under}
 use Rattle.block.proofs.Puts.{Stores, ticks}
-use Rattle.own.specs.Own.{own_number, own_given, own_block, own_memory}
+use Rattle.own.specs.Own.{opened_in, own_number, own_given, own_block, own_memory}
 use Rattle.own.proofs.WellFormed.{pages_in, page_below}
 
 -- the tests, of an operation and the operands that its line does not list
@@ -169,3 +176,36 @@ pub open_there : (s memory : List ℕ) (bank : ℕ) {page : ℕ} → well_formed
     → page ≡ open_page (decode_control s).banks bank → (page ≡ 65535 → ⊥)
     → (length memory ≡ size (decode_control s).pages) × ((decode_control s).pages ≤ 257) × (bank < 4) × (open_page (decode_control s).banks bank < (decode_control s).pages)
 open_there s memory bank well sized hb read f = (sized, (pages_in s well).1, hb, page_below s well bank hb (unequal read f))
+
+-- ---- the page that is open in a bank, as code is told it
+
+abbrev refusal_in : Result ℕ Refusal → Refusal
+refusal_in (Ok page) = BankClosed
+refusal_in (Err refusal) = refusal
+
+open_case : (shut : Bool) (p : ℕ) {page : ℕ} → ◌≡◌ {A = Result ℕ Refusal} (cond shut (Err BankClosed) (Ok p)) (Ok page) → (shut ≡ false) × (page ≡ p)
+open_case true p e = absurd (false≢true (ap is_ok e))
+open_case false p e = (refl, sym (ap (λ (r : Result ℕ Refusal). result_unwrap_or r 0) e))
+
+shut_case : (shut : Bool) (p : ℕ) {refusal : Refusal} → ◌≡◌ {A = Result ℕ Refusal} (cond shut (Err BankClosed) (Ok p)) (Err refusal) → (shut ≡ true) × (refusal ≡ BankClosed)
+shut_case true p e = (refl, ap (λ (r : Result ℕ Refusal). refusal_in r) (sym e))
+shut_case false p e = absurd (false≢true (sym (ap is_ok e)))
+
+module _ (s : List ℕ) (bank : ℕ) {r : Result ℕ Refusal} (told : r ≡ opened_in s bank) where
+  pub is_open : {page : ℕ} → r ≡ Ok page → (page ≡ open_page (decode_control s).banks bank) × (page ≡ 65535 → ⊥)
+  unfolding opened_in is_closed closed
+  is_open {page} is =
+      let banks = (decode_control s).banks in
+      let case = open_case (eqb (open_page banks bank) 65535) (open_page banks bank) (sym told ∙ is) in
+      (case.1, λ e. false≢true (sym case.0 ∙ eq-eqb _ _ (sym case.1 ∙ e)))
+
+  pub is_shut : {refusal : Refusal} → r ≡ Err refusal → (open_page (decode_control s).banks bank ≡ 65535) × (refusal ≡ BankClosed)
+  unfolding opened_in is_closed closed
+  is_shut is =
+      let banks = (decode_control s).banks in
+      let case = shut_case (eqb (open_page banks bank) 65535) (open_page banks bank) (sym told ∙ is) in
+      (eqb-true _ _ case.0, case.1)
+
+-- 7, passed on
+pub shut_given : (r : Result Done Refusal) (refusal : Refusal) → IsErrAnd r (λ e. e ≡ refusal) → refusal ≡ BankClosed → given_back r ≡ numbered 7
+shut_given r refusal is e = passed_on r refusal is ∙ rw e

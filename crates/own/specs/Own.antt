@@ -1,14 +1,16 @@
 -- A call on a well formed block and a memory of its size, for an operation that is known: what its own line of document 01's tables says of it.
 -- (What comes before, 01's numbers 1 to 3, is in `block_given` and its like: crate block, OnBlock.) Assumes nothing.
-use Rattle.std.specs.Prelude.{Bool, cond, not, ◌&&◌, List, ℕ, ◌+◌, ◌*◌, ◌%◌, ◌^◌}
+use Rattle.std.specs.Prelude.{Result, Ok, Err, Bool, cond, not, ◌&&◌, List, ℕ, ◌+◌, ◌*◌, ◌%◌, ◌^◌}
 use Rattle.std.specs.Int.Bits.{bit_or}
+use Rattle.numbers.specs.declared.Refusal.{Refusal}
+use Rattle.numbers.specs.declared.Refusal.TheVariants.{BankClosed}
 use Rattle.numbers.specs.Numbers.{first, when_done}
 use Rattle.lists.specs.Words.{put_word}
 use Rattle.pixel.specs.declared.Write.{Write}
 use Rattle.pixel.specs.declared.Outcome.{Outcome}
 use Rattle.bank.specs.Work.{in_slot}
 use Rattle.chip.specs.declared.Call.{Call}
-use Rattle.chip.specs.State.{slots}
+use Rattle.chip.specs.State.{slots, open_page, is_closed}
 use Rattle.chip.specs.Changes.{tag_of}
 use Rattle.chip.specs.Effects.{Effect, memory_after}
 use Rattle.chip.specs.Answers.{GivenBack, numbered, effect_given}
@@ -19,6 +21,10 @@ use Rattle.block.specs.Block.{flags_at, pixels_at, encode, decode_control, decod
 -- its number: 4 to 7 or 10, or 0
 unfoldable pub own_number : List ℕ → Call → ℕ
 own_number s x = first (call_tests slots (decode_control s) x)
+
+-- 01, Numbers, 7: the page that is open in a bank; none in a closed one
+unfoldable pub opened_in : List ℕ → ℕ → Result ℕ Refusal
+opened_in s bank = let banks = (decode_control s).banks in cond (is_closed banks bank) (Err BankClosed) (Ok (open_page banks bank))
 
 -- what it does, if it is done
 abbrev pub own_effect : List ℕ → Call → Effect

@@ -5,20 +5,22 @@ ghost use Rattle.chip.specs.Answers.{given_back};
 ghost use Rattle.block.specs.Block.{IsBlock, decode_control, well_formed_block};
 ghost use Rattle.own.specs.Own.{own_given, own_block, own_memory};
 
+use bank::Bank;
 use block::fields;
 use chip::{Answer, CLOSED, Call, Refusal};
-use own::{done, operands};
+use own::{done, opened, operands};
 
 // Opens a closed bank at a page.
 pub fn access(s: &mut [u8], x: Call) -> Answer
     requires { IsBlock s.old × (well_formed_block s.old ≡ true) × (x.op ≡ 1) }
     ensures { (given_back result ≡ own_given s.old x) × ((memory : List ℕ) → s.new ≡ own_block s.old memory x) }
 {
-    if !operands::page_fits(s, x) {
-        return Answer::Refused(Refusal::OperandOutside);
+    let pages = fields::pages(s);
+    if !operands::fits(x, operands::page_line(pages)) {
+        return Err(Refusal::OperandOutside);
     }
     if fields::open_page(s, x.a) != CLOSED {
-        return Answer::Refused(Refusal::BankOpen);
+        return Err(Refusal::BankOpen);
     }
     fields::put_page(s, x.a, x.b as u16);
     done(s, 0)
@@ -29,8 +31,8 @@ pub fn precharge(s: &mut [u8], x: Call) -> Answer
     requires { IsBlock s.old × (well_formed_block s.old ≡ true) × (x.op ≡ 2) }
     ensures { (given_back result ≡ own_given s.old x) × ((memory : List ℕ) → s.new ≡ own_block s.old memory x) }
 {
-    if !operands::bank_fits(x) {
-        return Answer::Refused(Refusal::OperandOutside);
+    if !operands::fits(x, operands::PRECHARGE) {
+        return Err(Refusal::OperandOutside);
     }
     fields::put_page(s, x.a, CLOSED);
     done(s, 0)
@@ -41,19 +43,18 @@ pub fn duplicate(s: &mut [u8], memory: &mut [u8], x: Call) -> Answer
     requires { IsBlock s.old × (well_formed_block s.old ≡ true) × (length memory.old ≡ size (decode_control s.old).pages) × (x.op ≡ 3) }
     ensures { (given_back result ≡ own_given s.old x) × (s.new ≡ own_block s.old memory.old x) × (memory.new ≡ own_memory s.old memory.old x) }
 {
-    if !operands::page_fits(s, x) {
-        return Answer::Refused(Refusal::OperandOutside);
-    }
-    let from = fields::open_page(s, x.a);
-    if from == CLOSED {
-        return Answer::Refused(Refusal::BankClosed);
-    }
     let pages = fields::pages(s);
+    if !operands::fits(x, operands::page_line(pages)) {
+        return Err(Refusal::OperandOutside);
+    }
+    let from = opened(s, x.a)?;
     let named = x.b as u16;
     bank::copy_page_in(
         memory,
-        pages as usize,
-        x.a as usize,
+        Bank {
+            pages: pages as usize,
+            number: x.a as usize,
+        },
         from as usize,
         named as usize,
     );

@@ -2,19 +2,20 @@
 #![tactic(auto)]
 
 ghost use Rattle.std.specs.Prelude.{◌≡◌, ◌<◌, length};
+ghost use Rattle.bits.specs.Bits.{digit};
+ghost use Rattle.numbers.specs.Refusals.{refusal_number};
 ghost use Rattle.columns.specs.Columns.{columns_left};
-ghost use Rattle.chip.specs.Answers.{valued, given_back, packed};
+ghost use Rattle.chip.specs.Answers.{done_with, numbered, valued, packed};
 ghost use Rattle.chip.specs.Operations.{ask};
 ghost use Rattle.block.specs.OnBlock.{call_number, block_after, block_memory, fresh_block};
 ghost use Rattle.panel.specs.Packs.{fresh_packed, line_offset, point_value, point_packed, column_packed, columns_packed};
 
-use chip::{Answer, Call};
-use columns::{Column, Filled};
-use layout::{Point, Pointed};
+use chip::{Call, Done, Refusal};
+use layout::{Point, ScanLine};
 
 // Value in bits 31:0, pass in 32, written in 33. By cases: an operation without flags then packs none.
 fn pack_done(value: u32, pass: bool, written: bool) -> u64
-    ensures { result ≡ packed (given_back (Answer.Done value pass written)) }
+    ensures { result ≡ packed (done_with value (digit pass) (digit written)) }
 {
     let low = value as u64;
     if pass {
@@ -35,6 +36,13 @@ fn pack(value: u32, number: u32) -> u64
     ensures { result ≡ packed (valued number value) }
 {
     (value as u64) + (number as u64) * 0x100_0000_0000
+}
+
+// A refusal, which has value 0.
+fn refused(refusal: Refusal) -> u64
+    ensures { result ≡ packed (numbered (refusal_number refusal)) }
+{
+    pack(0, refusal.into())
 }
 
 // A call of the chip.
@@ -63,11 +71,13 @@ pub extern "C" fn panel_call(
             given: data,
         },
     );
-    let Answer::Done {
-        value,
-        pass,
-        written,
-    } = answer
+    let Ok(
+        Done {
+            value,
+            pass,
+            written,
+        },
+    ) = answer
     else {
         return pack(0, chip::answers::number(answer));
     };
@@ -80,10 +90,10 @@ pub extern "C" fn panel_fresh(state: &mut [u8], pages: u32) -> u64
     ensures { (result ≡ fresh_packed state.old pages) × (state.new ≡ fresh_block state.old pages) }
 {
     if state.len() != block::places::BLOCK_BYTES {
-        return pack(0, 1);
+        return refused(Refusal::IllFormed);
     }
     if !layout::memory::pages_fit(pages) {
-        return pack(0, 4);
+        return refused(Refusal::OperandOutside);
     }
     stored::store(state, chip::fresh::fresh(pages as u16));
     pack(0, 0)
@@ -101,17 +111,13 @@ pub extern "C" fn panel_scan_line(
     ensures { result ≡ line_offset state.now memory.now bank page line }
 {
     if !block::form::well_formed(state) {
-        return pack(0, 1);
+        return refused(Refusal::IllFormed);
     }
     let pages = block::fields::pages(state) as u32;
-    let number = layout::memory::line_number(memory.len(), pages, bank, page, line);
-    if number != 0 {
-        return pack(0, number);
+    match layout::memory::find_line(memory.len(), pages, ScanLine { bank, page, line }) {
+        Ok(start) => pack(start as u32, 0),
+        Err(no_line) => refused(no_line),
     }
-    pack(
-        layout::memory::line_start(pages, bank, page, line) as u32,
-        0,
-    )
 }
 
 // Bank, page, line and column in one value.
@@ -127,11 +133,9 @@ fn point_value(p: Point) -> u32
 pub extern "C" fn panel_point(pages: u32, x: u32, y: u32) -> u64
     ensures { result ≡ point_packed pages x y }
 {
-    let found = layout::screen::point(pages, x, y);
-    match found {
-        Pointed::At(p) => pack(point_value(p), 0),
-        Pointed::PagesOutside => pack(0, 4),
-        Pointed::OffScreen => pack(0, 8),
+    match layout::screen::point(pages, x, y) {
+        Ok(point) => pack(point_value(point), 0),
+        Err(no_point) => refused(no_point),
     }
 }
 
@@ -140,10 +144,9 @@ pub extern "C" fn panel_point(pages: u32, x: u32, y: u32) -> u64
 pub extern "C" fn panel_column(x: u32) -> u64
     ensures { result ≡ column_packed x }
 {
-    let found = columns::entries::column(x);
-    match found {
-        Column::Entry(entry) => pack(entry as u32, 0),
-        Column::OffScreen => pack(0, 8),
+    match columns::entries::column(x) {
+        Ok(entry) => pack(entry as u32, 0),
+        Err(no_column) => refused(no_column),
     }
 }
 
@@ -152,9 +155,8 @@ pub extern "C" fn panel_column(x: u32) -> u64
 pub extern "C" fn panel_columns(table: &mut [u8]) -> u64
     ensures { (result ≡ columns_packed (length table.old)) × (table.new ≡ columns_left table.old) }
 {
-    let filled = columns::entries::fill(table);
-    match filled {
-        Filled::Whole => pack(0, 0),
-        Filled::WrongLength => pack(0, 4),
+    match columns::entries::fill(table) {
+        Ok(()) => pack(0, 0),
+        Err(not_filled) => refused(not_filled),
     }
 }

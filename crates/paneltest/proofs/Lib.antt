@@ -1,3 +1,2 @@
 pub mod Prints
-pub mod Replies
 pub mod SessionRuns

@@ -1,30 +1,32 @@
 -- Runs, one part after another. Assumes nothing.
 use mathlib.Core.Path.{◌≡◌, refl}
 use mathlib.Core.Bool.{Bool, true, false, cond}
-use mathlib.Core.List.{List, [], ◌∷◌, ◌++◌}
-use Prim.Native.Nat.{ℕ, zero, suc, ◌+◌, ◌*◌, ◌≤◌, ◌<◌}
+use mathlib.Core.List.{List, [], ◌∷◌, ◌++◌, append_assoc}
+use Prim.Native.Nat.{ℕ, zero, suc, ◌+◌, ◌≤◌, ◌<◌}
 use native.Mathlib.Numerals.{add-one}
 use native.Mathlib.Omega.{arith}
 use lib.Dec.{eqb}
-use lib.ListN.{length, take, get_or, length-append}
+use lib.ListN.{length, take, get_or}
 use lib.Seq.{take-suc}
 use Rattle.chip.specs.declared.Chip.{Chip}
 use Rattle.numbers.specs.Numbers.{when_done}
 use Rattle.chip.specs.Answers.{GivenBack}
 use Rattle.lines.specs.Lines.{TextGiven}
 use Rattle.lines.specs.Printing.{printed_given}
-use Rattle.lines.specs.ByByte.{ended}
+use Rattle.lines.specs.ByByte.{ended, has_byte}
 use Rattle.lines.proofs.Digits.{line_count}
-use Rattle.lines.proofs.PrintStores.{stored_both}
 use Rattle.paneltest.specs.declared.session.Session.{Session}
-use Rattle.paneltest.specs.declared.session.Progress.{Progress}
-use Rattle.paneltest.specs.Session.{Run, and_then, line_run, byte_run, close_run, start_run, ran, Leaves}
+use Rattle.paneltest.specs.Session.{Run, and_then, line_run, byte_run, close_run, ran, Leaves}
 
 -- ---- what functions leave, one after another
 
-leaves_both : {part next : Run} {r s : Progress} {m n : List ℕ} {at : ℕ} {before between after : List ℕ}
-    → Leaves part r m at before between → Leaves next s n r.at between after → Leaves (and_then part next) s n at before after
-leaves_both first second = record { session = second.session; memory_left = second.memory_left; output = stored_both first.output second.output }
+leaves_both : {part next : Run} {r s : Session} {m n before between after : List ℕ}
+    → Leaves part r m before between → Leaves next s n between after → Leaves (and_then part next) s n before after
+leaves_both first second = record {
+  session_left = second.session_left;
+  memory_left = second.memory_left;
+  output = rw (second.output, first.output, append_assoc);
+}
 
 -- ---- a line is at most 44 bytes
 
@@ -52,27 +54,12 @@ byte_room session memory x = either_room (eqb x 10) _ _ (line_room (ended sessio
 
 -- ---- the end of the input
 
-pub close_line : (session : Session) (memory : List ℕ) → session.reader.begun ≡ true
+pub close_line : (session : Session) (memory : List ℕ) → has_byte session.reader ≡ true
     → close_run session memory ≡ line_run (ended session.reader) session.chip memory
 unfolding close_run
 close_line session memory e = cc e
 
-pub close_none : (session : Session) (memory : List ℕ) → session.reader.begun ≡ false → close_run session memory ≡ start_run session memory
-unfolding close_run
-close_none session memory e = cc e
-
-pub close_room : (session : Session) (memory : List ℕ) → length (close_run session memory).printed ≤ 44
-unfolding close_run
-close_room session memory = either_room session.reader.begun _ _ (line_room (ended session.reader) session.chip memory) (omega arith)
-
 -- ---- a piece of the input, and then another
-
-pub ran_room : (run : Run) (input : List ℕ) → length (ran run input).printed ≤ length run.printed + length input * 44
-unfolding ran
-ran_room run [] = omega arith
-ran_room run (x ∷ input) =
-    let next = byte_run run.session run.memory x in
-    omega (arith, ran_room (and_then run next) input, byte_room run.session run.memory x, length-append run.printed next.printed)
 
 pub ran_append : (run : Run) (a b : List ℕ) → ran run (a ++ b) ≡ ran (ran run a) b
 unfolding ran
@@ -86,7 +73,7 @@ ran_more : (run : Run) (input : List ℕ) (i : ℕ) → i < length input
 unfolding ran
 ran_more run input i h = rw (add-one i, take-suc input i 0 h, ran_append)
 
-pub leaves_more : (run : Run) (input : List ℕ) (i : ℕ) {r s : Progress} {m n : List ℕ} {at : ℕ} {before between after : List ℕ} → i < length input
-    → Leaves (ran run (take i input)) r m at before between → Leaves (byte_run r.session m (get_or input i 0)) s n r.at between after
-    → Leaves (ran run (take (i + 1) input)) s n at before after
-leaves_more run input i h first second = rw (ran_more run input i h, ← first.session, ← first.memory_left) (leaves_both first second)
+pub leaves_more : (run : Run) (input : List ℕ) (i : ℕ) {r s : Session} {m n before between after : List ℕ} → i < length input
+    → Leaves (ran run (take i input)) r m before between → Leaves (byte_run r m (get_or input i 0)) s n between after
+    → Leaves (ran run (take (i + 1) input)) s n before after
+leaves_more run input i h first second = rw (ran_more run input i h, ← first.session_left, ← first.memory_left) (leaves_both first second)

@@ -6,10 +6,9 @@ use Rattle.chip.specs.State.{fresh_of}
 use Rattle.chip.specs.Answers.{numbered}
 use Rattle.chip.specs.Calls.{call_given, chip_of, memory_of}
 use Rattle.lines.specs.Lines.{TextGiven}
-use Rattle.lines.specs.ByByte.{started, after_byte, ended}
-use Rattle.lines.specs.Printing.{printed_given, Stored}
+use Rattle.lines.specs.ByByte.{started, after_byte, ended, has_byte}
+use Rattle.lines.specs.Printing.{printed_given}
 use Rattle.paneltest.specs.declared.session.Session.{Session}
-use Rattle.paneltest.specs.declared.session.Progress.{Progress}
 
 -- what a part of a run leaves: the session, memory, and what it printed
 pub record Run : Type 0 where
@@ -60,16 +59,16 @@ ran run (x ∷ xs) = ran (and_then run (byte_run run.session run.memory x)) xs
 
 -- 01, The small program: a last line may lack byte 10
 unfoldable pub close_run : Session → List ℕ → Run
-close_run session memory = cond session.reader.begun (line_run (ended session.reader) session.chip memory) (start_run session memory)
+close_run session memory = cond (has_byte session.reader) (line_run (ended session.reader) session.chip memory) (start_run session memory)
 
 -- what the program does with its input as it is read, in pieces of any length, and at its end
 unfoldable pub ran_all : Run → List (List ℕ) → Run
 ran_all run [] = and_then run (close_run run.session run.memory)
 ran_all run (piece ∷ pieces) = ran_all (and_then run (ran (start_run run.session run.memory) piece)) pieces
 
--- ---- what a function leaves: its answer, memory and the output, as a run has them
+-- ---- what a function leaves: the session, memory and the output, as a run has them
 
-pub record Leaves (run : Run) (r : Progress) (memory : List ℕ) (at : ℕ) (before after : List ℕ) : Type 0 where
-  pub session : r.session ≡ run.session
+pub record Leaves (run : Run) (session : Session) (memory before after : List ℕ) : Type 0 where
+  pub session_left : session ≡ run.session
   pub memory_left : memory ≡ run.memory
-  pub output : Stored before at run.printed after r.at
+  pub output : after ≡ before ++ run.printed

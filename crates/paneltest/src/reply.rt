@@ -1,29 +1,27 @@
 // What a call answered, as the line that is printed for it.
-ghost use Rattle.std.specs.Prelude.{◌+◌, ◌≤◌, length};
-ghost use Rattle.chip.specs.Answers.{given_back};
-ghost use Rattle.lines.specs.Printing.{printed_given, Stored};
+#![tactic(auto, unfolding(lines::specs::Printing::printed_given))]
 
+ghost use Rattle.std.specs.Prelude.{◌≡◌, ◌++◌, ◌+◌, ◌≤◌};
+ghost use Rattle.arrayvec.specs.ArrayString.{array_string_len};
+ghost use Rattle.chip.specs.Answers.{given_back};
+ghost use Rattle.lines.specs.Printing.{printed_given};
+
+use arrayvec::ArrayString;
 use chip::Answer;
 
 // An answer is taken apart as done or refused before its value is read.
-pub fn print(answer: Answer, output: &mut [u8], at: usize) -> usize
-    requires { at + 44 ≤ length output.old }
-    ensures { Stored output.old at (printed_given (given_back answer)) output.new result }
+pub fn print<const N: usize>(answer: Answer, output: &mut ArrayString<N>)
+    requires { array_string_len output.old + 44 ≤ N }
+    ensures { output.new.bytes ≡ output.old.bytes ++ printed_given (given_back answer) }
 {
-    let Answer::Done {
-        value,
-        pass,
-        written,
-    } = answer
-    else {
-        return lines::printer::put_line(output, at, chip::answers::number(answer), 0, 0, 0);
+    let Ok(done) = answer else {
+        return lines::printer::put_line(output, chip::answers::number(answer), 0, 0, 0);
     };
     lines::printer::put_line(
         output,
-        at,
         0,
-        value,
-        bits::digit_of(pass),
-        bits::digit_of(written),
-    )
+        done.value,
+        bits::digit_of(done.pass),
+        bits::digit_of(done.written),
+    );
 }

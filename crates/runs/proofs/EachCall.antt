@@ -2,12 +2,14 @@
 use mathlib.Core.Path.{◌≡◌, refl, sym, ap, ◌∙◌}
 use mathlib.Core.Bool.{true}
 use mathlib.Core.List.{List, [], ◌∷◌}
-use Prim.Native.Nat.{ℕ, suc, ◌+◌, ◌*◌, ◌/◌, ◌<◌, ◌≤◌}
-use native.Mathlib.Numerals.{add-one}
+use Prim.Native.Nat.{ℕ, zero, suc, ◌+◌, ◌*◌, ◌/◌, ◌<◌, ◌≤◌}
+use native.Mathlib.Nat.{add-zero}
 use native.Mathlib.Omega.{arith}
-use lib.ListN.{length, drop, get_or, length-drop}
-use lib.Seq.{drop-cons, sets}
+use lib.ListN.{length, take, drop, get_or, length-drop}
+use lib.Seq.{drop-drop, get_or-take, get_or-drop, sets}
 use borrow.Author.Tests.{eqb-true}
+use Rattle.std.specs.Simd.{first_chunks}
+use Rattle.std.proofs.lemmas.List.{drop_more, nil_from_length}
 use Rattle.chip.specs.declared.Call.{Call}
 use Rattle.chip.specs.Calls.{chip_of, memory_of}
 use Rattle.runs.specs.Runs.{calls_in, call_at, told_by, Left, left, ran_of, room_for}
@@ -17,7 +19,7 @@ use Rattle.runs.proofs.Tellings.{told_length, all_stored}
 
 -- one number more
 one : (l : List ℕ) (i j : ℕ) → j ≡ i + 1 → i < length l → drop i l ≡ get_or l i 0 ∷ drop j l
-one l i j e h = rw (e, add-one, drop-cons l i 0)
+one l i j e h = rw e (drop_more l i 0 h)
 
 -- from a place with six numbers on: a call, and the calls after it
 calls_more : (l : List ℕ) (at : ℕ) → at + 6 ≤ length l → calls_in (drop at l) ≡ call_at l at ∷ calls_in (drop (at + 6) l)
@@ -48,11 +50,31 @@ unfolding room_for
 room_told numbers told e = eqb-true _ _ e ∙ ap (λ (n : ℕ). 5 * n) (calls_counted numbers)
 
 calls_none : (l : List ℕ) → length l < 6 → calls_in l ≡ []
-calls_none l h = go (calls_in l) (omega (arith, calls_counted l))
-  where
-    go : (calls : List Call) → length calls ≡ 0 → calls ≡ []
-    go [] e = refl
-    go (x ∷ xs) e = absurd (omega arith)
+calls_none l h = nil_from_length (calls_in l) (omega (arith, calls_counted l))
+
+-- the i-th six of the numbers, cut into sixes
+six_at : (l : List ℕ) (n i : ℕ) → i < n → get_or (first_chunks 6 n l) i [] ≡ take 6 (drop (6 * i) l)
+six_at l zero i h = absurd (omega arith)
+six_at l (suc n) zero h = refl
+six_at l (suc n) (suc i) h =
+    let on : 6 + 6 * i ≡ 6 * suc i = omega arith in
+    six_at (drop 6 l) n i (omega arith) ∙ ap (take 6) (drop-drop (6 * i) 6 l ∙ ap (λ (k : ℕ). drop k l) on)
+
+number_at : (l : List ℕ) (n i j : ℕ) → i < n → j < 6 → get_or (get_or (first_chunks 6 n l) i []) j 0 ≡ get_or l (6 * i + j) 0
+number_at l n i j hi hj = rw (six_at l n i hi, get_or-take 6 (drop (6 * i) l) j 0 hj) (get_or-drop (6 * i) l j 0)
+
+-- is the call at its place
+pub call_of_six : (l : List ℕ) (sixes : List (List ℕ)) (n i : ℕ) → sixes ≡ first_chunks 6 n l → i < n → call_at (get_or sixes i []) 0 ≡ call_at l (6 * i)
+call_of_six l sixes n i e h = rw (
+  e,
+  number_at l n i 0 h (omega arith),
+  number_at l n i 1 h (omega arith),
+  number_at l n i 2 h (omega arith),
+  number_at l n i 3 h (omega arith),
+  number_at l n i 4 h (omega arith),
+  number_at l n i 5 h (omega arith),
+  add-zero (6 * i),
+)
 
 -- ---- the calls from the i-th on, over what those before it left and told
 

@@ -10,26 +10,26 @@ ghost use Rattle.runs.specs.Runs.{call_at, calls_in, five_numbers, told_by, left
 ghost use Rattle.runs.specs.Drawn.{IsDone, IsPicture};
 
 use calls::value;
-use chip::{Answer, Answered, Call, Chip, Refusal, fresh};
+use chip::{Answer, Answered, Call, Chip, Refusal, answers, fresh};
 use layout::memory::pages_fit;
 
-// A call is six numbers, and five are told of it.
+// A call is six numbers, and five are told of it. Both lists are flat, as the small program and C have them, and of any length.
 const CALL_NUMBERS: usize = 6;
 
 const TOLD_NUMBERS: usize = 5;
 
-// The call of the six numbers from `at` on.
-fn call_at(numbers: &[u32], at: usize) -> Call
-    requires { at + 6 ≤ length numbers.now }
-    ensures { result ≡ call_at numbers.now at }
+// The call of six numbers.
+fn call_of(six: &[u32; CALL_NUMBERS]) -> Call
+    ensures { result ≡ call_at six.now 0 }
 {
+    let [op, a, b, c, d, given] = *six;
     Call {
-        op: numbers[at],
-        a: numbers[at + 1],
-        b: numbers[at + 2],
-        c: numbers[at + 3],
-        d: numbers[at + 4],
-        given: numbers[at + 5],
+        op,
+        a,
+        b,
+        c,
+        d,
+        given,
     }
 }
 
@@ -38,11 +38,7 @@ fn put_five(told: &mut [u32], at: usize, number: u32, value: u32, pass: u32, wri
     requires { at + 5 ≤ length told.old }
     ensures { told.new ≡ sets told.old at (number ∷ value ∷ pass ∷ written ∷ hit ∷ []) }
 {
-    told[at] = number;
-    told[at + 1] = value;
-    told[at + 2] = pass;
-    told[at + 3] = written;
-    told[at + 4] = hit;
+    told[at..at + TOLD_NUMBERS].copy_from_slice(&[number, value, pass, written, hit]);
 }
 
 // What a call answered, taken apart, and the hit flag after it.
@@ -51,22 +47,17 @@ fn tell(told: &mut [u32], at: usize, answer: Answer, hit: bool)
     ensures { told.new ≡ sets told.old at (five_numbers (given_back answer) hit) }
 {
     let flag = bits::digit_of(hit);
-    let Answer::Done {
-        value,
-        pass,
-        written,
-    } = answer
-    else {
-        put_five(told, at, chip::answers::number(answer), 0, 0, 0, flag);
+    let Ok(done) = answer else {
+        put_five(told, at, answers::number(answer), 0, 0, 0, flag);
         return;
     };
     put_five(
         told,
         at,
         0,
-        value,
-        bits::digit_of(pass),
-        bits::digit_of(written),
+        done.value,
+        bits::digit_of(done.pass),
+        bits::digit_of(done.written),
         flag,
     );
 }
@@ -96,7 +87,7 @@ fn refused(chip: Chip) -> Answered
     ensures { (given_back result.answer ≡ numbered 4) × (result.chip ≡ chip) }
 {
     Answered {
-        answer: Answer::Refused(Refusal::OperandOutside),
+        answer: Err(Refusal::OperandOutside),
         chip: chip,
     }
 }
@@ -108,19 +99,14 @@ pub fn run(chip: Chip, memory: &mut [u8], numbers: &[u32], told: &mut [u32]) -> 
     if !room_for(numbers, told) {
         return refused(chip);
     }
+    let (calls, _) = numbers.as_chunks::<CALL_NUMBERS>();
+    // Told at its place: nothing is said of what a slice ends as that `chunks_exact_mut` lent.
     let mut ran = chip;
-    let mut i: usize = 0;
-    while i < numbers.len() / CALL_NUMBERS {
-        let call = call_at(numbers, CALL_NUMBERS * i);
-        ran = next(ran, memory, call, told, TOLD_NUMBERS * i);
-        i += 1;
+    for (i, six) in calls.iter().enumerate() {
+        ran = next(ran, memory, call_of(six), told, TOLD_NUMBERS * i);
     }
     Answered {
-        answer: Answer::Done {
-            value: 0,
-            pass: false,
-            written: false,
-        },
+        answer: answers::done(0),
         chip: ran,
     }
 }

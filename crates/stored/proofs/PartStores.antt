@@ -3,13 +3,13 @@ use mathlib.Core.Path.{◌≡◌, refl, sym, ap, ap₂, ◌∙◌}
 use mathlib.Core.List.{List, [], ◌∷◌, ◌++◌, flatten, append_assoc, append-nil}
 use Prim.Native.Nat.{ℕ, ◌+◌, ◌*◌, ◌≤◌}
 use native.Mathlib.Nat.{zero-add, add_assoc}
-use native.Mathlib.Omega.{arith}
-use lib.ListN.{length, take, drop, length-append, length-drop}
+use lib.ListN.{length, take, drop, length-append}
 use lib.Dec.{lit<}
-use lib.Seq.{sets, length-take-le}
+use lib.Seq.{sets, sets-eq, drop-drop}
+use borrow.Rule.Slice.PartMut.{put_mid}
 use Rattle.lists.specs.Words.{halves, words}
 use Rattle.lists.proofs.Seams.{start_long}
-use Rattle.lists.proofs.Rows.{length_row}
+use Rattle.lists.specs.Laws.{length_row}
 use Rattle.lists.proofs.RowStores.{sets_more, sets_whole}
 use Rattle.chip.specs.declared.Control.{Control}
 use Rattle.chip.specs.declared.Chip.{Chip}
@@ -61,8 +61,7 @@ chip_stored chip s {s₁} z e e₁ e₂ e₃ e₄ =
     ∙ ap (sets s 0) (sym (flatten_append before behind))
     ∙ sets_whole (encode chip) s (length_encode chip z ∙ sym e)
 
--- ---- and read
-
--- a part of a block, stored over all of an array, is that part
-pub part_read : (s p : List ℕ) (at n : ℕ) → at + n ≤ length s → length p ≡ n → sets p 0 (take n (drop at s)) ≡ take n (drop at s)
-part_read s p at n h e = sets_whole (take n (drop at s)) p (length-take-le n (drop at s) (omega (arith, length-drop at s)) ∙ sym e)
+-- bytes copied over a part of a list
+pub part_put : (s xs new : List ℕ) (at k : ℕ) → at + length xs ≤ length s → new ≡ xs → k ≡ length xs → put_mid at k s new ≡ sets s at xs
+part_put s xs new at k h e f =
+    rw (e, f, drop-drop (length xs) at s) (sym (append_assoc (take at s) xs (drop (at + length xs) s))) ∙ sym (sets-eq xs s at h)

@@ -30,8 +30,8 @@ pub fn video_clock(s: &mut [u8], x: Call) -> Answer
     requires { IsBlock s.old × (well_formed_block s.old ≡ true) × (x.op ≡ 17) }
     ensures { (given_back result ≡ own_given s.old x) × ((memory : List ℕ) → s.new ≡ own_block s.old memory x) }
 {
-    if !operands::nothing_given(x) {
-        return Answer::Refused(Refusal::OperandOutside);
+    if !operands::fits(x, operands::VIDEO_CLOCK) {
+        return Err(Refusal::OperandOutside);
     }
     let scan = fields::scan(s);
     let out = fields::put_out(s, scan);

@@ -10,8 +10,9 @@ ghost use Rattle.block.specs.Block.{IsBlock, video_at, decode_control, well_form
 ghost use Rattle.own.specs.Own.{own_given, own_block};
 
 use block::{fields, places};
-use chip::{Answer, CLOSED, Call, Refusal, Scan};
-use own::{done, operands};
+use chip::{Answer, Call, Refusal, Scan};
+use layout::ScanLine;
+use own::{done, opened, operands};
 
 // Whether the display is reading the buffer that a bank feeds.
 fn in_use(scan: Scan, bank: u32) -> bool
@@ -27,7 +28,12 @@ fn load_line(s: &mut [u8], memory: &[u8], x: Call)
 {
     let pages = fields::pages(s);
     let page = fields::open_page(s, x.a);
-    let start = layout::memory::line_start(pages as u32, x.a, page as u32, x.b);
+    let named = ScanLine {
+        bank: x.a,
+        page: page as u32,
+        line: x.b,
+    };
+    let start = layout::memory::line_start(pages as u32, named);
     bank::transfer(
         memory,
         start,
@@ -41,14 +47,12 @@ pub fn video_transfer(s: &mut [u8], memory: &[u8], x: Call) -> Answer
     requires { IsBlock s.old × (well_formed_block s.old ≡ true) × (length memory.now ≡ size (decode_control s.old).pages) × (x.op ≡ 16) }
     ensures { (given_back result ≡ own_given s.old x) × (s.new ≡ own_block s.old memory.now x) }
 {
-    if !operands::line_fits(x) {
-        return Answer::Refused(Refusal::OperandOutside);
+    if !operands::fits(x, operands::VIDEO_TRANSFER) {
+        return Err(Refusal::OperandOutside);
     }
-    if fields::open_page(s, x.a) == CLOSED {
-        return Answer::Refused(Refusal::BankClosed);
-    }
+    opened(s, x.a)?;
     if in_use(fields::scan(s), x.a) {
-        return Answer::Refused(Refusal::BufferInUse);
+        return Err(Refusal::BufferInUse);
     }
     load_line(s, memory, x);
     done(s, 0)

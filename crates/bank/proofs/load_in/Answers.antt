@@ -4,7 +4,7 @@ use Rattle.bank.proofs.load_in.Goals as goal
 
 pub returns : goal.returns
 returns c =
-    let start = c.bank_start-start in
+    let start = c.start-start in
     let a = c.args in
     rw c.load.ensures
-    (rw (← start.ensures.0) at (load_part a.pages a.bank a.page a.block a.slot a.memory.now a.pixels.now))
+    (rw (← start.ensures.0) at (load_part a.bank.pages a.bank.number a.place.page a.place.block a.slot a.memory.now a.pixels.now))

@@ -7,9 +7,9 @@ use Rattle.bank.proofs.write_back_in.Goals as goal
 
 pub returns : goal.returns
 returns c =
-    let start = c.bank_start-start in
+    let start = c.start-start in
     let a = c.args in
     rw c.write_back.ensures
     (rw (← start.ensures.0) at
-    (back_lent a.pages a.bank a.page a.block a.mask a.tag (λ i. get_or a.pixels.now (in_slot a.slot i) 0)
+    (back_lent a.bank.pages a.bank.number a.place.page a.place.block a.mask a.tag (λ i. get_or a.pixels.now (in_slot a.slot i) 0)
     a.memory.now (omega (arith, start.ensures))))

@@ -1,7 +1,9 @@
 -- `panel::panel_call`: the call on the block, and its answer packed. Assumes nothing.
 use Rattle.block.specs.OnBlock.{call_number}
 use Rattle.chip.specs.Answers.{numbered, given_back, packed}
-use Rattle.chip.specs.declared.Answer.{Answer}
+use Rattle.std.specs.Prelude.{Result}
+use Rattle.numbers.specs.declared.Refusal.{Refusal}
+use Rattle.chip.specs.declared.Done.{Done}
 use Rattle.panel.proofs.Packings.{number_lt, refused_packed}
 use Prim.Native.Nat.{ℕ}
 use mathlib.Core.Path.{sym, ap, ◌∙◌}
@@ -21,4 +23,4 @@ pub returns : goal.returns
 unfolding call_number
 returns c =
     let own = c.act-answer.ensures in
-    (c.pack_done.ensures ∙ sym (ap (λ (a : Answer). packed (given_back a)) c.in-Done.is) ∙ ap packed own.0, own.1, own.2)
+    (c.pack_done.ensures ∙ sym (ap (λ (a : Result Done Refusal). packed (given_back a)) c.in-Ok.is) ∙ ap packed own.0, own.1, own.2)

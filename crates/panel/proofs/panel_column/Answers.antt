@@ -1,10 +1,10 @@
--- `panel::panel_column`: each case of the answer, packed, is what the definition gives. Assumes nothing.
+-- `panel::panel_column`: an entry or a refusal, packed, is what the definition gives. Assumes nothing.
 use Rattle.panel.proofs.Packings.{column_told}
 use mathlib.Core.Path.{◌∙◌}
 use Rattle.panel.proofs.panel_column.Goals as goal
 
-pub returns-in-Entry : goal.returns-in-Entry
-returns-in-Entry c = c.pack.ensures ∙ column_told _ _ _ c.column-found.ensures c.in-Entry.is
+pub returns-in-Ok : goal.returns-in-Ok
+returns-in-Ok c = c.pack.ensures ∙ column_told _ _ _ c.column.ensures c.in-Ok.is
 
-pub returns-in-OffScreen : goal.returns-in-OffScreen
-returns-in-OffScreen c = c.pack-in-OffScreen.ensures ∙ column_told _ _ _ c.column-found.ensures c.in-OffScreen.is
+pub returns-in-Err : goal.returns-in-Err
+returns-in-Err c = c.refused.ensures ∙ column_told _ _ _ c.column.ensures c.in-Err.is

@@ -1,14 +1,10 @@
--- `panel::panel_columns`: each case of the answer, packed; the buffer is what `fill` leaves. Assumes nothing.
+-- `panel::panel_columns`: done or refused, packed; the buffer is what `fill` leaves. Assumes nothing.
 use Rattle.panel.proofs.Packings.{table_told}
 use mathlib.Core.Path.{◌∙◌}
 use Rattle.panel.proofs.panel_columns.Goals as goal
 
-pub returns-in-Whole : goal.returns-in-Whole
-returns-in-Whole c =
-    let fill = c.fill-filled in
-    (c.pack.ensures ∙ table_told _ _ _ fill.ensures.0 c.in-Whole.is, fill.ensures.1)
+pub returns-in-Ok : goal.returns-in-Ok
+returns-in-Ok c = (c.pack.ensures ∙ table_told _ _ _ c.fill.ensures.0 c.in-Ok.is, c.fill.ensures.1)
 
-pub returns-in-WrongLength : goal.returns-in-WrongLength
-returns-in-WrongLength c =
-    let fill = c.fill-filled in
-    (c.pack-in-WrongLength.ensures ∙ table_told _ _ _ fill.ensures.0 c.in-WrongLength.is, fill.ensures.1)
+pub returns-in-Err : goal.returns-in-Err
+returns-in-Err c = (c.refused.ensures ∙ table_told _ _ _ c.fill.ensures.0 c.in-Err.is, c.fill.ensures.1)

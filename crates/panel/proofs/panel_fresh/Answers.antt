@@ -18,14 +18,14 @@ pub returns-then-state-ne-BLOCK_BYTES : goal.returns-then-state-ne-BLOCK_BYTES
 unfolding fresh_packed fresh_block fresh_block_number first
 returns-then-state-ne-BLOCK_BYTES c =
     let wrong = ne_eqb (length c.args.state.now) block_bytes c.if-state-ne-BLOCK_BYTES.true in
-    (c.pack.ensures ∙ rw wrong, rw wrong)
+    (c.refused.ensures ∙ rw wrong, rw wrong)
 
 pub returns-then-not-pages_fit : goal.returns-then-not-pages_fit
 unfolding fresh_packed fresh_block fresh_block_number first
 returns-then-not-pages_fit c =
     let long : eqb (length c.args.state.now) block_bytes ≡ true = eq-eqb _ block_bytes c.if-state-ne-BLOCK_BYTES.false in
     let outside = test_fails c.pages_fit.ensures c.if-not-pages_fit.true in
-    (c.pack-then-not-pages_fit.ensures ∙ rw (long, outside), rw (long, outside))
+    (c.refused-then-not-pages_fit.ensures ∙ rw (long, outside), rw (long, outside))
 
 pub overflow_cast-pages : goal.overflow_cast-pages
 overflow_cast-pages c =
@@ -37,7 +37,7 @@ unfolding fresh_packed fresh_block fresh_block_number first
 returns c =
     let long : eqb (length c.args.state.now) block_bytes ≡ true = eq-eqb _ block_bytes c.if-state-ne-BLOCK_BYTES.false in
     let inside = test_holds c.pages_fit.ensures c.if-not-pages_fit.false in
-    (c.pack-2.ensures ∙ rw (long, inside), c.store.ensures ∙ rw (long, inside) (ap encode c.fresh.ensures))
+    (c.pack.ensures ∙ rw (long, inside), c.store.ensures ∙ rw (long, inside) (ap encode c.fresh.ensures))
 
 pub fresh-requires : goal.fresh-requires
 fresh-requires c =

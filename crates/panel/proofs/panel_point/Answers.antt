@@ -1,4 +1,4 @@
--- `panel::panel_point`: each case of the answer, packed; a point that is given fits its places. Assumes nothing.
+-- `panel::panel_point`: a point or a refusal, packed; a point that is given fits its places. Assumes nothing.
 use Rattle.panel.proofs.Packings.{point_told}
 use Rattle.panel.specs.Packs.{point_value}
 use Rattle.chip.specs.Answers.{valued, packed}
@@ -10,16 +10,12 @@ use Rattle.panel.proofs.panel_point.Goals as goal
 
 pub point_value-requires : goal.point_value-requires
 point_value-requires c =
-    let i = given_inside _ _ _ _ (sym (ap pointed_given c.in-At.is) ∙ c.point-found.ensures) in
+    let i = given_inside _ _ _ _ (sym (ap pointed_given c.in-Ok.is) ∙ c.point.ensures) in
     (i.bank_lt, i.page_lt, i.line_lt, i.column_lt)
 
-pub returns-in-At : goal.returns-in-At
-returns-in-At c = c.pack.ensures ∙ ap (λ (v : ℕ). packed (valued 0 v)) c.point_value.ensures ∙ point_told _ _ _ _ _ c.point-found.ensures c.in-At.is
+pub returns-in-Ok : goal.returns-in-Ok
+returns-in-Ok c = c.pack.ensures ∙ ap (λ (v : ℕ). packed (valued 0 v)) c.point_value.ensures ∙ point_told _ _ _ _ _ c.point.ensures c.in-Ok.is
 
-pub returns-in-PagesOutside : goal.returns-in-PagesOutside
+pub returns-in-Err : goal.returns-in-Err
 unfolding point_value
-returns-in-PagesOutside c = c.pack-in-PagesOutside.ensures ∙ point_told _ _ _ _ _ c.point-found.ensures c.in-PagesOutside.is
-
-pub returns-in-OffScreen : goal.returns-in-OffScreen
-unfolding point_value
-returns-in-OffScreen c = c.pack-in-OffScreen.ensures ∙ point_told _ _ _ _ _ c.point-found.ensures c.in-OffScreen.is
+returns-in-Err c = c.refused.ensures ∙ point_told _ _ _ _ _ c.point.ensures c.in-Err.is

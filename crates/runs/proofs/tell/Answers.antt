@@ -16,4 +16,4 @@ pub returns : goal.returns
 returns c =
     let a = c.args in
     c.put_five-2.ensures ∙ ap (λ (l : List ℕ). sets a.told.now a.at l)
-    (done_five a.answer _ _ _ a.hit _ _ _ c.in-Done.is c.digit_of.ensures c.digit_of-2.ensures c.digit_of-flag.ensures)
+    (done_five a.answer _ a.hit _ _ _ c.in-Ok.is c.digit_of.ensures c.digit_of-2.ensures c.digit_of-flag.ensures)

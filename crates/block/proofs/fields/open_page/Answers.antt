@@ -10,4 +10,4 @@ pub returns : goal.returns
 unfolding open_page decode_control
 returns c =
     let a = c.args in
-    c.half_at.ensures ∙ sym (row_at 2 half_at 4 16 a.bank a.s.now (search rules))
+    c.get.ensures ∙ sym (row_at 2 half_at 4 16 a.bank a.s.now (search rules))

@@ -17,6 +17,6 @@ pub returns : goal.returns
 unfolding put_out half_at
 returns c =
     let a = c.args in
-    c.half_at.ensures
+    c.get.ensures
     ∙ ap₂ (λ (low high : ℕ). low + high * 2 ^ 8) (video_byte_lem a.s.now a.scan.select (2 * a.scan.counter) _ (search rules) (omega arith) (omega arith))
     (video_byte_lem a.s.now a.scan.select (2 * a.scan.counter + 1) _ (search rules) (omega arith) (omega arith))

@@ -8,4 +8,4 @@ pub returns : goal.returns
 returns c =
     let a = c.args in
     let place : 20 + 4 * a.number ≡ register_at a.number = omega arith in
-    c.put_word.ensures ∙ ap (λ (p : ℕ). put_word p a.value a.s.now) place
+    c.put.ensures ∙ ap (λ (p : ℕ). put_word p a.value a.s.now) place

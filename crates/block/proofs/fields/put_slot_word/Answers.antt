@@ -9,4 +9,4 @@ unfolding in_slot
 returns c =
     let a = c.args in
     let place : 92 + (32 * a.slot + 4 * a.word) ≡ 92 + (a.slot * 32 + 4 * a.word) = omega arith in
-    c.put_word.ensures ∙ ap (λ (p : ℕ). put_word p a.x a.s.now) place
+    c.put.ensures ∙ ap (λ (p : ℕ). put_word p a.x a.s.now) place

@@ -11,4 +11,4 @@ unfolding register decode_control
 returns c =
     let a = c.args in
     let place : 20 + 4 * a.number ≡ 24 + 4 * (a.number - 1) = omega arith in
-    c.word_at.ensures ∙ ap (word_at a.s.now) place ∙ sym (row_at 4 word_at 7 24 (a.number - 1) a.s.now (omega arith))
+    c.get.ensures ∙ ap (word_at a.s.now) place ∙ sym (row_at 4 word_at 7 24 (a.number - 1) a.s.now (omega arith))

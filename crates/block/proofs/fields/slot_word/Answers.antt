@@ -12,4 +12,4 @@ unfolding slot_byte pixels_in
 returns c =
     let a = c.args in
     let place : 92 + (32 * a.slot + 4 * a.word) ≡ 92 + (a.slot * 32 + 4 * a.word) = omega arith in
-    c.word_at.ensures ∙ ap (word_at a.s.now) place ∙ sym (word_in_slot (pixels_in a.s.now) a.slot a.word ∙ word_part 92 256 (a.slot * 32 + 4 * a.word) a.s.now (omega arith))
+    c.get.ensures ∙ ap (word_at a.s.now) place ∙ sym (word_in_slot (pixels_in a.s.now) a.slot a.word ∙ word_part 92 256 (a.slot * 32 + 4 * a.word) a.s.now (omega arith))

@@ -10,4 +10,4 @@ pub returns : goal.returns
 unfolding tag_of decode_control
 returns c =
     let a = c.args in
-    c.word_at.ensures ∙ sym (row_at 4 word_at 8 60 a.slot a.s.now (search rules))
+    c.get.ensures ∙ sym (row_at 4 word_at 8 60 a.slot a.s.now (search rules))

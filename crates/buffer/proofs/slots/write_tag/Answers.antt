@@ -16,6 +16,7 @@ use Rattle.chip.specs.Effects.{still, leaving, effect}
 use Rattle.chip.specs.Refusals.{asks}
 use Rattle.block.specs.Block.{decode_control, ticked_in}
 use Rattle.block.proofs.Puts.{stores_of, stores_tag}
+use Rattle.own.proofs.Lines.{slot_fits}
 use Rattle.own.proofs.OwnLines.{row_write_tag}
 use Rattle.own.proofs.Owns.{by_asks, operands_refused, put_done}
 use Rattle.buffer.proofs.slots.write_tag.Goals as goal
@@ -25,25 +26,25 @@ replaced : (replace : Bool) (was given : ℕ) → bit_or (cond replace 0 was) gi
 replaced true was given = refl
 replaced false was given = refl
 
-pub returns-then-not-slot_fits : goal.returns-then-not-slot_fits
+pub returns-then-not-fits : goal.returns-then-not-fits
 unfolding in_range slots
-returns-then-not-slot_fits c =
-    operands_refused c.args.s.now c.args.x (row_write_tag c.args.x c.requires.2 c.requires.3) c.slot_fits.ensures c.if-not-slot_fits.true
+returns-then-not-fits c =
+    operands_refused c.args.s.now c.args.x (row_write_tag c.args.x c.requires.2 c.requires.3) (c.fits.ensures ∙ slot_fits c.args.x) c.if-not-fits.true
 
 pub tag-requires : goal.tag-requires
 tag-requires c =
-    let slot-there : c.args.x.a < 8 = ltb-true c.args.x.a 8 (and_left _ _ (test_holds c.slot_fits.ensures c.if-not-slot_fits.false)) in
+    let slot-there : c.args.x.a < 8 = ltb-true c.args.x.a 8 (and_left _ _ (test_holds (c.fits.ensures ∙ slot_fits c.args.x) c.if-not-fits.false)) in
     (c.requires.0, slot-there)
 
 pub put_tag-requires : goal.put_tag-requires
 put_tag-requires c =
-    let slot-there : c.args.x.a < 8 = ltb-true c.args.x.a 8 (and_left _ _ (test_holds c.slot_fits.ensures c.if-not-slot_fits.false)) in
+    let slot-there : c.args.x.a < 8 = ltb-true c.args.x.a 8 (and_left _ _ (test_holds (c.fits.ensures ∙ slot_fits c.args.x) c.if-not-fits.false)) in
     (c.requires.0, slot-there)
 
 pub returns : goal.returns
 unfolding in_range slots asks first effect
 returns c =
-    let slot-there : c.args.x.a < 8 = ltb-true c.args.x.a 8 (and_left _ _ (test_holds c.slot_fits.ensures c.if-not-slot_fits.false)) in
+    let slot-there : c.args.x.a < 8 = ltb-true c.args.x.a 8 (and_left _ _ (test_holds (c.fits.ensures ∙ slot_fits c.args.x) c.if-not-fits.false)) in
     let given-small : c.args.x.given < 2 ^ 32 = search rules in
     let s = c.args.s.now in
     let x = c.args.x in
@@ -51,7 +52,7 @@ returns c =
     let was = tag_of (decode_control s) x.a in
     let is : tag ≡ cond (eqb x.op 12) x.given (bit_or was x.given)
     = ap (λ (t : ℕ). bit_or t x.given) (c.pick-was.ensures ∙ ap (cond (eqb x.op 12) 0) c.tag.ensures) ∙ replaced (eqb x.op 12) was x.given in
-    let none = by_asks (decode_control s) ((let x = c.args.x in write_tag (eqb x.op 12) x.a x.given)) _ (test_holds c.slot_fits.ensures c.if-not-slot_fits.false) refl in
+    let none = by_asks (decode_control s) ((let x = c.args.x in write_tag (eqb x.op 12) x.a x.given)) _ (test_holds (c.fits.ensures ∙ slot_fits c.args.x) c.if-not-fits.false) refl in
     let held = stores_of s (λ a. omega (arith, c.slice_known-1.given a)) c.requires.1 in
     put_done s x ((let x = c.args.x in write_tag (eqb x.op 12) x.a x.given)) _ (row_write_tag x c.requires.2 c.requires.3) none
     (stores_tag held x.a tag slot-there (or_lt 32 c.pick-was.result x.given (search rules) given-small))

@@ -21,7 +21,7 @@ pub returns : goal.returns
 unfolding fresh_given fresh_chip fresh_number first
 returns c =
     let fits : pages_fit c.args.pages ≡ true = test_holds c.pages_fit.ensures c.if-not-pages_fit.false in
-    rw (fits, c.fresh.ensures) (refl, refl)
+    rw (fits, c.fresh.ensures) (c.done.ensures, refl)
 
 pub fresh-requires : goal.fresh-requires
 fresh-requires c =

@@ -1,5 +1,4 @@
--- `columns::entries::fill`, by the loop's invariant: the buffer has 2,560 bytes, and the first two for each entry passed are the table's.
--- The measure is the number of entries left. Assumes nothing.
+-- `columns::entries::fill`: past the last entry all 2,560 bytes are the table's. Assumes nothing.
 use mathlib.Core.Path.{◌≡◌, refl, sym, ap, ◌∙◌}
 use mathlib.Core.List.{List}
 use Prim.Native.Nat.{ℕ, ◌+◌, ◌*◌, ◌/◌, ◌%◌, ◌<◌}
@@ -9,7 +8,7 @@ use borrow.Author.Tests.{eq-eqb, ne_eqb}
 use Rattle.numbers.specs.Numbers.{first}
 use Rattle.columns.specs.Columns.{column_entry, column_table, column_byte, column_bytes, columns_number, columns_left}
 use Rattle.columns.proofs.Tables.{get_or_table, is_table, filled_next}
-use Rattle.columns.proofs.Columns.{entry_lt, lower_byte, upper_byte}
+use Rattle.columns.proofs.Columns.{lower_byte, upper_byte}
 use Rattle.columns.proofs.entries.fill.Goals as goal
 
 pub returns-then-buffer-ne-TABLE_BYTES : goal.returns-then-buffer-ne-TABLE_BYTES
@@ -17,13 +16,12 @@ unfolding columns_left columns_number first
 returns-then-buffer-ne-TABLE_BYTES c = rw (ne_eqb _ _ c.if-buffer-ne-TABLE_BYTES.true) (refl, refl)
 
 pub loop-x-init : goal.loop-x-init
-loop-x-init c = (omega arith, omega arith, λ j h. absurd (omega arith))
+loop-x-init c j h = absurd (omega arith)
 
-pub overflow_cast-buffer-in-loop-x : goal.overflow_cast-buffer-in-loop-x
+-- code's table has the entry of each x
+entry_read : (entries : List ℕ) (x : ℕ) → entries ≡ column_table → x < 1280 → get_or entries x 0 ≡ column_entry x
 unfolding column_table
-overflow_cast-buffer-in-loop-x c =
-    let entry_read : get_or c.columns-entries.result c.loop-x.x 0 ≡ column_entry c.loop-x.x = ap (λ entries. get_or entries c.loop-x.x 0) c.columns-entries.ensures ∙ get_or_table 1280 column_entry c.loop-x.x (omega arith) in
-    omega (arith, entry_read, entry_lt c.loop-x.x (omega arith))
+entry_read entries x e h = ap (λ (l : List ℕ). get_or l x 0) e ∙ get_or_table 1280 column_entry x h
 
 -- a turn puts the entry's lower byte, and then its upper byte
 turned : (entry x : ℕ) (buffer : List ℕ) → x < 1280 → entry ≡ column_entry x → length buffer ≡ 2560
@@ -34,22 +32,14 @@ turned entry x buffer h e long before =
     (filled_next column_byte buffer (2 * x) (entry % 256) (omega arith) (ap (λ (n : ℕ). n % 256) e ∙ sym (lower_byte x)) before)
 
 pub loop-x-preserved : goal.loop-x-preserved
-unfolding column_table
-loop-x-preserved c =
-    let entry_read : get_or c.columns-entries.result c.loop-x.x 0 ≡ column_entry c.loop-x.x = ap (λ entries. get_or entries c.loop-x.x 0) c.columns-entries.ensures ∙ get_or_table 1280 column_entry c.loop-x.x (omega arith) in
-    let inv = c.loop-x.invariant in
-    let x = c.loop-x.x in (
-      omega arith,
-      simp length-set inv.1,
-      λ j h. turned (get_or c.columns-entries.result x 0) x c.loop-x.buffer (omega arith) (entry_read) inv.1 inv.2 j (omega arith),
-    )
+loop-x-preserved c j h =
+    let x = c.loop-x.x in
+    turned _ x c.loop-x.buffer c.loop-x-test.true (entry_read _ x c.columns-entries.ensures c.loop-x-test.true) (c.loop-x.auto.buffer ∙ c.if-buffer-ne-TABLE_BYTES.false)
+    c.loop-x.invariant j (omega arith)
 
 pub returns : goal.returns
 unfolding columns_left columns_number first column_bytes
 returns c =
-    let inv = c.loop-x.invariant in
-    let last : c.loop-x.x ≡ 1280 = omega arith in
-    rw (eq-eqb _ _ c.if-buffer-ne-TABLE_BYTES.false) (refl, is_table c.loop-x.buffer 2560 column_byte inv.1 (λ j h. inv.2 j (omega arith)))
-
-pub bounds-buffer-x-in-loop-x : goal.bounds-buffer-x-in-loop-x
-bounds-buffer-x-in-loop-x c = simp length-set (omega arith)
+    let last : c.loop-x.x ≡ 1280 = omega (arith, c.loop-x.auto.x-end, c.loop-x-test.false) in
+    let long : length c.loop-x.buffer ≡ 2560 = c.loop-x.auto.buffer ∙ c.if-buffer-ne-TABLE_BYTES.false in
+    rw (eq-eqb _ _ c.if-buffer-ne-TABLE_BYTES.false) (refl, is_table c.loop-x.buffer 2560 column_byte long (λ j h. c.loop-x.invariant j (omega arith)))

@@ -20,8 +20,8 @@ pub returns : goal.returns
 unfolding scan_line_of line_given
 returns c =
     let a = c.args in
-    c.scan_line.ensures ∙ ap (λ (n : ℕ). when_done n (scan_line a.control.pages a.bank a.page a.line a.memory.now) [])
-    (line_told a.control (length a.memory.now) a.bank a.page a.line (test_holds c.well_formed-2.ensures c.if-not-well_formed.false))
+    c.scan_line.ensures ∙ ap (λ (n : ℕ). when_done n (scan_line a.control.pages a.named.bank a.named.page a.named.line a.memory.now) [])
+    (line_told a.control (length a.memory.now) a.named.bank a.named.page a.named.line (test_holds c.well_formed-2.ensures c.if-not-well_formed.false))
 
 pub scan_line-requires : goal.scan_line-requires
 scan_line-requires c = pages_fit_lem _ (test_holds c.well_formed-2.ensures c.if-not-well_formed.false)

@@ -25,4 +25,4 @@ pub returns : goal.returns
 unfolding kept_block keep_number first
 returns c =
     let long : eqb (length c.args.state.now) block_bytes ≡ true = eq-eqb _ block_bytes c.if-not-is_block_long.false in
-    rw (long, test_holds c.well_formed-2.ensures c.if-not-well_formed.false) (refl, c.store.ensures)
+    rw (long, test_holds c.well_formed-2.ensures c.if-not-well_formed.false) (c.done.ensures, c.store.ensures)

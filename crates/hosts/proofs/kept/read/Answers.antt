@@ -22,7 +22,7 @@ known s = eqb (length (grown s)) block_bytes
 pub returns-then-not-says_its_length : goal.returns-then-not-says_its_length
 unfolding read_chip read_number first
 returns-then-not-says_its_length c =
-    rw (readable_tested c.args.state.now, test_fails c.says_its_length.ensures c.if-not-says_its_length.true) c.refused.ensures
+    rw (readable_tested c.args.state.now, test_fails c.says_its_length.ensures c.if-not-says_its_length.true) (record { number = refl; chip = λ handed_in. refl })
 
 pub grown-newest-requires : goal.grown-newest-requires
 grown-newest-requires c =
@@ -36,7 +36,7 @@ returns-then-not-well_formed c =
     let said : (says_length c.args.state.now && known c.args.state.now) ≡ true = test_holds c.says_its_length.ensures c.if-not-says_its_length.false in
     let formed : c.well_formed-2.result ≡ well_formed_block (grown c.args.state.now) = c.well_formed-2.ensures ∙ ap well_formed_block c.grown-newest.ensures in
     let s = c.args.state.now in
-    rw (readable_tested s, said, test_fails formed c.if-not-well_formed.true) c.refused-then-not-well_formed.ensures
+    rw (readable_tested s, said, test_fails formed c.if-not-well_formed.true) (record { number = refl; chip = λ handed_in. refl })
 
 pub returns : goal.returns
 unfolding read_chip read_number first
@@ -44,4 +44,4 @@ returns c =
     let said : (says_length c.args.state.now && known c.args.state.now) ≡ true = test_holds c.says_its_length.ensures c.if-not-says_its_length.false in
     let formed : c.well_formed-2.result ≡ well_formed_block (grown c.args.state.now) = c.well_formed-2.ensures ∙ ap well_formed_block c.grown-newest.ensures in
     let s = c.args.state.now in
-    rw (readable_tested s, said, test_holds formed c.if-not-well_formed.false) (refl, c.read.ensures ∙ ap decode c.grown-newest.ensures)
+    rw (readable_tested s, said, test_holds formed c.if-not-well_formed.false) (record { number = refl; chip = λ handed_in. c.read.ensures ∙ ap decode c.grown-newest.ensures })

@@ -12,5 +12,5 @@ put_bytes-requires c = omega (arith, grown_fits c.args.state.now c.requires.1)
 
 pub returns : goal.returns
 returns c =
-    c.put_half.ensures ∙ ap (put_half length_at block_bytes) c.put_bytes.ensures
+    c.put.ensures ∙ ap (put_half length_at block_bytes) c.put_bytes.ensures
     ∙ grown_stored c.args.state.now c.requires.1 _ refl (sym fresh_zeros) (λ a. omega (arith, c.type_inv.state a)) c.requires.0

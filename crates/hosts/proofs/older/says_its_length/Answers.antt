@@ -16,12 +16,12 @@ returns-then-not-length c =
     let unknown : eqb (length (grown s)) block_bytes ≡ false = grown_long s ∙ c.if-not-length.true in
     rw unknown (sym (and-false (says_length s)))
 
-pub half_at-requires : goal.half_at-requires
-half_at-requires c =
+pub get-requires : goal.get-requires
+get-requires c =
     let known : eqb (length (grown c.args.state.now)) block_bytes ≡ true = grown_long _ ∙ c.if-not-length.false in
     omega (arith, grown_fits c.args.state.now (eqb-true _ _ known))
 
 pub returns : goal.returns
 returns c =
     let known : eqb (length (grown c.args.state.now)) block_bytes ≡ true = grown_long _ ∙ c.if-not-length.false in
-    rw (known, c.half_at.ensures) (sym (and-true _))
+    rw (known, c.get.ensures) (sym (and-true _))

@@ -1,16 +1,10 @@
--- `lines::printer::put_number`: the digits, then the byte. Assumes nothing.
+-- `lines::printer::put_number`: the digits as the library writes them, then the byte. Assumes nothing.
+use mathlib.Core.List.{append_assoc}
 use native.Mathlib.Omega.{arith}
 use Rattle.lines.specs.Printing.{printed_number}
-use Rattle.lines.proofs.Digits.{digits_count}
-use Rattle.lines.proofs.PrintStores.{stored_both}
+use Rattle.lines.proofs.Digits.{digits_written}
 use Rattle.lines.proofs.printer.put_number.Goals as goal
 
-pub put_digits-next-requires : goal.put_digits-next-requires
-put_digits-next-requires c = omega (arith, digits_count c.args.x)
-
-pub put_byte-requires : goal.put_byte-requires
-put_byte-requires c = omega (arith, digits_count c.args.x)
-
-pub returns : goal.returns
+pub returns-clause-bytes : goal.returns-clause-bytes
 unfolding printed_number
-returns c = stored_both c.put_digits-next.ensures c.put_byte.ensures
+returns-clause-bytes g c = rw (digits_written c.args.x (omega arith), c.push.ensures.ascii (omega arith), c.push_str.ensures.bytes, c.format.ensures.text, append_assoc)

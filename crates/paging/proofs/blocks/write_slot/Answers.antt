@@ -9,9 +9,11 @@ use Rattle.paging.proofs.blocks.write_slot.Goals as goal
 pub write_back_in-requires : goal.write_back_in-requires
 write_back_in-requires c =
     let pre = c.requires in
-    rw (c.pages-pages.ensures, c.open_page-page.ensures) (pre.1, pre.2, pre.3, pre.4, pre.5, simp (length-take, length-drop) (omega (arith, pre.0, pre.6)))
+    let named = c.named.ensures in
+    rw (named.bank.0, named.bank.1, named.place.0, named.place.1) (pre.1, pre.2, pre.3, pre.4, pre.5, simp (length-take, length-drop) (omega (arith, pre.0, pre.6)))
 
 pub returns : goal.returns
 unfolding back_mask slot_byte pixels_in
 returns c =
-    rw (c.pages-pages.ensures, c.open_page-page.ensures, c.tag-tag.ensures, c.pick-mask.ensures, c.register.ensures) at c.write_back_in.ensures
+    let named = c.named.ensures in
+    rw (named.bank.0, named.bank.1, named.place.0, named.place.1, c.tag-tag.ensures, c.pick-mask.ensures, c.register.ensures) at c.write_back_in.ensures

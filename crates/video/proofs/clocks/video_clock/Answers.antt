@@ -13,6 +13,7 @@ use Rattle.chip.specs.Refusals.{asks}
 use Rattle.chip.proofs.Accepted.{scan_fits_lem}
 use Rattle.block.specs.Block.{decode_control, video_in}
 use Rattle.block.proofs.Puts.{stores_of}
+use Rattle.own.proofs.Lines.{nothing_given}
 use Rattle.own.proofs.WellFormed.{well_control}
 use Rattle.own.proofs.OwnLines.{row_video_clock}
 use Rattle.own.proofs.Owns.{by_asks, operands_refused, put_done, as_stored}
@@ -20,11 +21,11 @@ use Rattle.video.specs.Clocks.{counted_in}
 use Rattle.video.proofs.Counts.{stores_counted}
 use Rattle.video.proofs.clocks.video_clock.Goals as goal
 
-pub returns-then-not-nothing_given : goal.returns-then-not-nothing_given
+pub returns-then-not-fits : goal.returns-then-not-fits
 unfolding in_range
-returns-then-not-nothing_given c =
+returns-then-not-fits c =
     let x = c.args.x in
-    operands_refused c.args.s.now x (row_video_clock x c.requires.2) c.nothing_given.ensures c.if-not-nothing_given.true
+    operands_refused c.args.s.now x (row_video_clock x c.requires.2) (c.fits.ensures ∙ nothing_given c.args.x) c.if-not-fits.true
 
 pub put_out-out-requires : goal.put_out-out-requires
 put_out-out-requires c =
@@ -45,7 +46,7 @@ returns c =
     let s = c.args.s.now in
     let x = c.args.x in
     let v = (decode_control s).scan in
-    let none = by_asks (decode_control s) video_clock _ (test_holds c.nothing_given.ensures c.if-not-nothing_given.false) refl in
+    let none = by_asks (decode_control s) video_clock _ (test_holds (c.fits.ensures ∙ nothing_given c.args.x) c.if-not-fits.false) refl in
     let was = stores_of s (λ a. omega (arith, c.slice_known-1.given a)) c.requires.1 in
     let out = c.put_out-out.ensures ∙ ap (λ (w : Scan). put_out w (video_byte (video_in s))) c.scan-scan.ensures in
     put_done s x video_clock _ (row_video_clock x c.requires.2) none
