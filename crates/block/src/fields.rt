@@ -1,5 +1,6 @@
-// One field of a state block, read or put where it lies, by a line over the generic `get` and `put`. The block has its length: each function says so
-// (`IsBlock`), since a type for it would ask callers for more than a slice.
+// One field of a state block, read or put where it lies: each function is a line over the generic `get` and `put`, and asks that the block has its
+// length (`IsBlock`), since a type for that would ask callers for more than a slice. Picking and hit are read by a function each: one that is told
+// which would be no plainer.
 #![tactic(auto, unfolding(crate::specs::Block::decode_control, crate::specs::Block::put_tag, crate::specs::Block::ticked_in))]
 
 ghost use Rattle.std.specs.Prelude.{◌≡◌, ◌+◌, ◌*◌, ◌<◌, ◌≤◌};
@@ -80,7 +81,7 @@ pub fn hit(s: &[u8]) -> bool
     bits::bit_of(u32::get(s, FLAGS_AT), 1)
 }
 
-// Picking and hit, read by a name each, as the flags' bits 0 and 1.
+// Picking and hit as the flags' bits 0 and 1.
 pub fn flags(picking: bool, hit: bool) -> u32
     ensures { result ≡ digit picking + digit hit * 2 }
 {

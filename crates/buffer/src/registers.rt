@@ -11,19 +11,23 @@ ghost use Rattle.own.specs.Own.{own_given, own_block};
 use block::fields;
 use chip::{Answer, Call, Refusal};
 use own::{done, operands};
+use pixel::registers::Register;
 
-// The bits that may be 1 in a write of a register, which its number names, as in the documents' table and in a call. No table: an array that is indexed is copied at each use.
+// The bits that may be 1 in a write of the register with this number. No table: an array that is indexed is copied at each use.
 fn writable_bits(number: u32) -> u32
     requires { (1 ≤ number) × (number ≤ 7) }
     ensures { result ≡ get_or writable (number - 1) 0 }
 {
-    if number < 5 {
+    if number < Register::RopControl as u32 {
         return 0xffff_ffff;
     }
-    if number == 5 {
+    if number == Register::RopControl as u32 {
         return 0x2f2f_2f2f;
     }
-    if number == 6 { 0x0f03_0707 } else { 1 }
+    if number == Register::CompareControl as u32 {
+        return 0x0f03_0707;
+    }
+    1
 }
 
 // Two action bits from here on have a leading 1, and act.
@@ -44,7 +48,7 @@ fn put_compare(s: &mut [u8], value: u32)
 {
     let picking = switched_by(value / 0x400_0000 % 4, fields::picking(s));
     let hit = switched_by(value / 0x100_0000 % 4, fields::hit(s));
-    fields::put_register(s, 6, value % 0x100_0000);
+    fields::put_register(s, Register::CompareControl as u32, value % 0x100_0000);
     fields::put_flags(s, picking, hit);
 }
 
@@ -58,7 +62,7 @@ pub fn write_register(s: &mut [u8], x: Call) -> Answer
     if !bits::within(x.given, writable_bits(x.a)) {
         return Err(Refusal::BitNotAllowed);
     }
-    if x.a == 6 {
+    if x.a == Register::CompareControl as u32 {
         put_compare(s, x.given);
         return done(s, 0);
     }

@@ -75,8 +75,8 @@ pub fn stateful_write(s: &mut [u8], x: Call) -> Answer
     }
 }
 
-// Its destination is (slot, word) whatever the registers hold. The refusal is the other arm here too. The write is written out here and there: it
-// is stateless or not by the function that asks for it.
+// Its destination is (slot, word) whatever the registers hold. The refusal is the other arm here too. A `Write`
+// is made here and in `stateful_write`: the function says whether it is stateless.
 pub fn stateless_write(s: &mut [u8], x: Call) -> Answer
     requires { IsBlock s.old × (well_formed_block s.old ≡ true) × (8 ≤ x.op) × (x.op ≤ 9) }
     ensures { (given_back result ≡ own_given s.old x) × ((memory : List ℕ) → s.new ≡ own_block s.old memory x) }

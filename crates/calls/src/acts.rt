@@ -13,8 +13,8 @@ use layout::memory::FOUR_PAGES_BYTES;
 use paging::{blocks, pages};
 use video::{clocks, transfers};
 
-// The operation that the call's number names, if any; the stateful writes are told apart before. A match: the seventeen are fixed, and each of their
-// functions asks for its own number.
+// The operation that the call's number names, if any; the stateful writes are told apart before. A match, since there are seventeen operations and no
+// more, and each function requires its own number.
 fn other(s: &mut [u8], memory: &mut [u8], x: Call) -> Answer
     requires { IsBlock s.old × (well_formed_block s.old ≡ true) × (length memory.old ≡ size (decode_control s.old).pages) × (10 ≤ x.op → 12 ≤ x.op) }
     ensures { (given_back result ≡ block_given s.old memory.old x) × (s.new ≡ block_after s.old memory.old x) × (memory.new ≡ block_memory s.old memory.old x) }

@@ -2,10 +2,9 @@
 use Rattle.std.proofs.Common.{◌≡◌, ℕ, zero, suc, ◌<◌, Bool, true, false, cond, eqb, List, [], ◌∷◌, length, Result, Ok, Err, IsErrAnd, refl, lit<}
 use Rattle.lists.proofs.Entries.{Each}
 use Rattle.numbers.specs.Numbers.{first, when_done}
-use Rattle.numbers.proofs.Tests.{determined}
 use Rattle.numbers.specs.declared.Refusal.{Refusal}
 use Rattle.numbers.specs.Refusals.{refusal_number}
-use Rattle.numbers.proofs.Refusals.{refusal_of, refused_back}
+use Rattle.numbers.proofs.Refusals.{result_determined}
 use Rattle.chip.specs.declared.Done.{Done}
 use Rattle.chip.specs.declared.Call.{Call}
 use Rattle.chip.specs.declared.Control.{Control}
@@ -77,24 +76,16 @@ passed_on (Err other) refusal is = rw is
 
 -- ---- equal numbers and values are equal answers
 
--- the answer that has this number and these values
-from : GivenBack → Result Done Refusal
-from g = cond (eqb g.number 0)
-    (Ok (record { value = g.value; pass = eqb g.pass 1; written = eqb g.written 1 }))
-    (Err (refusal_of g.number))
+-- what a call that is done gives, from its values
+abbrev done_of : GivenBack → Done
+done_of g = record { value = g.value; pass = eqb g.pass 1; written = eqb g.written 1 }
 
-done_given : (value : ℕ) (pass written : Bool) → from (done_with value (digit pass) (digit written)) ≡ Ok (record { value = value; pass = pass; written = written })
-unfolding from
-done_given value true true = refl
-done_given value true false = refl
-done_given value false true = refl
-done_given value false false = refl
-
-from_given : (a : Result Done Refusal) → from (given_back a) ≡ a
-unfolding from
-from_given (Ok done) = done_given done.value done.pass done.written
-from_given (Err refusal) = refused_back _ refusal
+done_back : (value : ℕ) (pass written : Bool) → done_of (done_with value (digit pass) (digit written)) ≡ record { value = value; pass = pass; written = written }
+done_back value true true = refl
+done_back value true false = refl
+done_back value false true = refl
+done_back value false false = refl
 
 -- 01, Expected form: so the promise determines the answer
 pub answer_determined : (a b : Result Done Refusal) → given_back a ≡ given_back b → a ≡ b
-answer_determined = determined given_back from from_given
+answer_determined = result_determined given_back (λ g. g.number) done_of (λ done. (refl, done_back done.value done.pass done.written)) (λ r. refl)

@@ -7,6 +7,7 @@ ghost use Rattle.chip.specs.Video.{scan_fits};
 ghost use Rattle.chip.specs.State.{open_page, page_fits, storable, well_formed};
 
 use super::Control;
+use pixel::registers::Register;
 
 // What the tests read of a state, wherever it is kept: each part when its turn comes.
 pub trait State {
@@ -69,7 +70,7 @@ const LAST_PAIR: u16 = 39;
 pub fn page_fits(pages: u16, page: u16) -> bool
     ensures { result ≡ page_fits pages page }
 {
-    std::num::wrapping_add_u16(page, 1) <= pages
+    page.wrapping_add(1) <= pages
 }
 
 // Whether the page open in each bank fits.
@@ -89,13 +90,13 @@ fn banks_fit<S: State>(state: &S) -> bool
 fn registers_fit<S: State>(state: &S) -> bool
     ensures { result ≡ every 7 (λ n. within (slice_index (S.control state.now).registers n) (slice_index storable n)) }
 {
-    bits::within(state.register(1), 0xffff_ffff)
-        && bits::within(state.register(2), 0xffff_ffff)
-        && bits::within(state.register(3), 0xffff_ffff)
-        && bits::within(state.register(4), 0xffff_ffff)
-        && bits::within(state.register(5), 0x2f2f_2f2f)
-        && bits::within(state.register(6), 0x0003_0707)
-        && bits::within(state.register(7), 1)
+    bits::within(state.register(Register::PlaneMask as u32), 0xffff_ffff)
+        && bits::within(state.register(Register::ConstantSource as u32), 0xffff_ffff)
+        && bits::within(state.register(Register::MatchMask as u32), 0xffff_ffff)
+        && bits::within(state.register(Register::MagnitudeMask as u32), 0xffff_ffff)
+        && bits::within(state.register(Register::RopControl as u32), 0x2f2f_2f2f)
+        && bits::within(state.register(Register::CompareControl as u32), 0x0003_0707)
+        && bits::within(state.register(Register::WriteAddressControl as u32), 1)
 }
 
 // Whether the counter counts modulo 40 and a video buffer is selected.

@@ -10,7 +10,7 @@ use Rattle.numbers.proofs.Tests.{determined}
 use Rattle.columns.specs.Columns.{table, column_entry, ColumnGiven, found_given, column_byte, column_bytes, filled_number}
 use Rattle.std.specs.Prelude.{Result, Ok, Err, ⊤}
 use Rattle.numbers.specs.declared.Refusal.{Refusal}
-use Rattle.numbers.proofs.Refusals.{refusal_of, refused_back}
+use Rattle.numbers.proofs.Refusals.{result_determined}
 use Rattle.columns.proofs.Tables.{get_or_table}
 
 pub entry_lt : (x : ℕ) → x < 1280 → column_entry x < 2048
@@ -40,27 +40,9 @@ entry_read_back x h =
     let high : get_or (table 2560 column_byte) (2 * x + 1) 0 ≡ column_entry x / 256 = get_or_table 2560 column_byte (2 * x + 1) (omega arith) ∙ upper_byte x h in
     rw (low, high) (omega arith)
 
--- ---- equal numbers and entries are equal answers
-
-found : ColumnGiven → Result ℕ Refusal
-found g = cond (eqb g.number 0) (Ok g.entry) (Err (refusal_of g.number))
-
-found_given_lem : (a : Result ℕ Refusal) → found (found_given a) ≡ a
-unfolding found
-found_given_lem (Ok entry) = refl
-found_given_lem (Err refusal) = refused_back _ refusal
-
--- 01, Expected form: so the promise determines the answer
+-- 01, Expected form: equal numbers and entries are equal answers
 pub column_determined : (a b : Result ℕ Refusal) → found_given a ≡ found_given b → a ≡ b
-column_determined = determined found_given found found_given_lem
-
-filled : ℕ → Result ⊤ Refusal
-filled number = cond (eqb number 0) (Ok _) (Err (refusal_of number))
-
-filled_given : (a : Result ⊤ Refusal) → filled (filled_number a) ≡ a
-unfolding filled
-filled_given (Ok done) = refl
-filled_given (Err refusal) = refused_back _ refusal
+column_determined = result_determined found_given (λ g. g.number) (λ g. g.entry) (λ entry. (refl, refl)) (λ r. refl)
 
 pub filled_determined : (a b : Result ⊤ Refusal) → filled_number a ≡ filled_number b → a ≡ b
-filled_determined = determined filled_number filled filled_given
+filled_determined = result_determined filled_number (λ number. number) (λ number. _) (λ done. (refl, refl)) (λ r. refl)

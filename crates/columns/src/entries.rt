@@ -20,7 +20,7 @@ pub fn column(x: u32) -> Result<u16, Refusal>
 }
 
 // Fills a buffer of 2,560 bytes with the table, 16 bits an entry, the lower byte first. A buffer of another length stays as it is.
-// The table is copied before the loop, since an index into the constant in the loop would copy it at each turn.
+// The table is copied once, before the loop.
 pub fn fill(buffer: &mut [u8]) -> Result<(), Refusal>
     ensures { (filled_number result ≡ columns_number (length buffer.old)) × (buffer.new ≡ columns_left buffer.old) }
 {
@@ -29,8 +29,7 @@ pub fn fill(buffer: &mut [u8]) -> Result<(), Refusal>
     }
     let entries = table::columns();
     for (x, entry) in entries.iter().enumerate() {
-        buffer[2 * x] = (entry % 256) as u8;
-        buffer[2 * x + 1] = (entry / 256) as u8;
+        [buffer[2 * x], buffer[2 * x + 1]] = entry.to_le_bytes();
     }
     Ok(())
 }

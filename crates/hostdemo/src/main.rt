@@ -3,11 +3,11 @@
 #![tactic(auto)]
 
 ghost use Rattle.std.specs.Prelude.{◌≡◌};
-ghost use Rattle.chip.specs.Answers.{given_back};
-ghost use Rattle.chip.specs.Calls.{call_given, chip_of, memory_of, fresh_given, fresh_chip};
+ghost use Rattle.chip.specs.Calls.{chip_of, memory_of};
 
 use block::places;
-use chip::{Answer, Answered, Call, Chip, Control, Scan, answers};
+use chip::operations::Operation;
+use chip::{Answer, Call, Chip, Control, Scan, answers};
 use layout::ScanLine;
 use lists::LittleEndian;
 
@@ -29,37 +29,11 @@ fn tell(rt: &impl Print, name: &str, answer: Answer) {
     println!(rt; "{name}: done, value {value}").is_ok();
 }
 
-// Lends a chip to the call that makes it fresh.
-fn freshened(chip: Chip, pages: u32) -> Answered
-    ensures { (given_back result.answer ≡ fresh_given pages) × (result.chip ≡ fresh_chip chip pages) }
+// Makes a call and says what it answered.
+fn step(rt: &impl Print, name: &str, chip: &mut Chip, memory: &mut [u8], x: Call)
+    ensures { (chip.new ≡ chip_of chip.old memory.old x) × (memory.new ≡ memory_of chip.old memory.old x) }
 {
-    let mut held = chip;
-    let answer = hosts::lent::fresh_on(&mut held, pages);
-    Answered {
-        answer: answer,
-        chip: held,
-    }
-}
-
-// Lends a chip to any other call.
-fn advanced(chip: Chip, memory: &mut [u8], x: Call) -> Answered
-    ensures { (given_back result.answer ≡ call_given chip memory.old x) × (result.chip ≡ chip_of chip memory.old x) × (memory.new ≡ memory_of chip memory.old x) }
-{
-    let mut held = chip;
-    let answer = hosts::lent::call_on(&mut held, memory, x);
-    Answered {
-        answer: answer,
-        chip: held,
-    }
-}
-
-// Makes a call, says what it answered, and gives back the chip that it leaves.
-fn step(rt: &impl Print, name: &str, chip: Chip, memory: &mut [u8], x: Call) -> Chip
-    ensures { (result ≡ chip_of chip memory.old x) × (memory.new ≡ memory_of chip memory.old x) }
-{
-    let done = advanced(chip, memory, x);
-    tell(rt, name, done.answer);
-    done.chip
+    tell(rt, name, hosts::lent::call_on(chip, memory, x));
 }
 
 // Shows the first word of a scan line, or says with which number it is refused.
@@ -74,42 +48,71 @@ fn show(rt: &impl Print, control: Control, memory: &[u8], named: ScanLine) {
     }
 }
 
-fn call(op: u32, a: u32, b: u32, c: u32, d: u32, given: u32) -> Call {
+fn call(op: Operation, a: u32, b: u32, c: u32, d: u32, given: u32) -> Call {
     Call {
-        op: op,
-        a: a,
-        b: b,
-        c: c,
-        d: d,
-        given: given,
+        op: op as u32,
+        a,
+        b,
+        c,
+        d,
+        given,
     }
 }
 
 // Opens page 0 of bank 0 and loads its block 0 into slot 0.
-fn load(rt: &impl Print, fresh: Chip, memory: &mut [u8]) -> Chip {
-    let opened = step(rt, "access page", fresh, memory, call(1, 0, 0, 0, 0, 0));
-    step(rt, "read block", opened, memory, call(4, 0, 0, 0, 0, 0))
+fn load(rt: &impl Print, chip: &mut Chip, memory: &mut [u8]) {
+    step(
+        rt,
+        "access page",
+        chip,
+        memory,
+        call(Operation::AccessPage, 0, 0, 0, 0, 0),
+    );
+    step(
+        rt,
+        "read block",
+        chip,
+        memory,
+        call(Operation::ReadBlock, 0, 0, 0, 0, 0),
+    );
 }
 
 // Writes a word into slot 0, all four of its bytes; made once more, the write changes none.
-fn draw(rt: &impl Print, loaded: Chip, memory: &mut [u8]) -> Chip {
-    let write = call(11, 0, 0, 15, 3, 0x0102_0304);
-    let drawn = step(rt, "data write", loaded, memory, write);
-    step(rt, "data write, again", drawn, memory, write)
+fn draw(rt: &impl Print, chip: &mut Chip, memory: &mut [u8]) {
+    let write = call(Operation::StatefulNormalWrite, 0, 0, 15, 3, 0x0102_0304);
+    step(rt, "data write", chip, memory, write);
+    step(rt, "data write, again", chip, memory, write);
 }
 
 // A word that waits in the pixel buffer is not on the scan line: it is there after the write-back.
-fn write_back(rt: &impl Print, drawn: Chip, memory: &mut [u8]) -> Chip {
-    show(rt, drawn.control, memory, FIRST_LINE);
-    let back = step(rt, "write block", drawn, memory, call(5, 0, 0, 0, 0, 0));
-    show(rt, back.control, memory, FIRST_LINE);
-    back
+fn write_back(rt: &impl Print, chip: &mut Chip, memory: &mut [u8]) {
+    show(rt, chip.control, memory, FIRST_LINE);
+    step(
+        rt,
+        "write block",
+        chip,
+        memory,
+        call(Operation::MaskedWriteBlock, 0, 0, 0, 0, 0),
+    );
+    show(rt, chip.control, memory, FIRST_LINE);
 }
 
 // Transfers the scan line into video buffer 0, which is selected, and puts out its first two bytes.
-fn scan_out(rt: &impl Print, back: Chip, memory: &mut [u8]) -> Chip {
-    let filled = step(rt, "video transfer", back, memory, call(16, 0, 0, 0, 0, 0));
-    step(rt, "video clock", filled, memory, call(17, 0, 0, 0, 0, 0))
+fn scan_out(rt: &impl Print, chip: &mut Chip, memory: &mut [u8]) {
+    step(
+        rt,
+        "video transfer",
+        chip,
+        memory,
+        call(Operation::VideoTransfer, 0, 0, 0, 0, 0),
+    );
+    step(
+        rt,
+        "video clock",
+        chip,
+        memory,
+        call(Operation::VideoClock, 0, 0, 0, 0, 0),
+    );
 }
 
 // The block as the base kept it: 348 bytes, which end where the video buffers start, and its header says so.
@@ -132,14 +135,26 @@ fn kept(rt: &impl Print, chip: Chip) -> Chip {
 }
 
 // Page 1 is not below P, the bank is open already, and the selected video buffer is not yet put out whole.
-fn be_refused(rt: &impl Print, chip: Chip, memory: &mut [u8]) {
+fn be_refused(rt: &impl Print, chip: &mut Chip, memory: &mut [u8]) {
     let of_page_1 = ScanLine {
         page: 1,
         ..FIRST_LINE
     };
     show(rt, chip.control, memory, of_page_1);
-    step(rt, "access page", chip, memory, call(1, 0, 0, 0, 0, 0));
-    step(rt, "video transfer", chip, memory, call(16, 0, 0, 0, 0, 0));
+    step(
+        rt,
+        "access page",
+        chip,
+        memory,
+        call(Operation::AccessPage, 0, 0, 0, 0, 0),
+    );
+    step(
+        rt,
+        "video transfer",
+        chip,
+        memory,
+        call(Operation::VideoTransfer, 0, 0, 0, 0, 0),
+    );
 }
 
 // A chip of no pages, which is not well formed. Written out, since a derived `Default` has no arrays so long.
@@ -166,11 +181,12 @@ fn ill_formed() -> Chip {
 // A chip that is not well formed is made fresh all the same.
 fn main(rt: HostRuntime) {
     let mut memory = [0u8; 5120];
-    let made = freshened(ill_formed(), 1);
-    tell(&rt, "fresh chip", made.answer);
-    let loaded = load(&rt, made.chip, &mut memory);
-    let drawn = draw(&rt, loaded, &mut memory);
-    let back = write_back(&rt, drawn, &mut memory);
-    let scanned = scan_out(&rt, back, &mut memory);
-    be_refused(&rt, kept(&rt, scanned), &mut memory);
+    let mut chip = ill_formed();
+    tell(&rt, "fresh chip", hosts::lent::fresh_on(&mut chip, 1));
+    load(&rt, &mut chip, &mut memory);
+    draw(&rt, &mut chip, &mut memory);
+    write_back(&rt, &mut chip, &mut memory);
+    scan_out(&rt, &mut chip, &mut memory);
+    let mut back = kept(&rt, chip);
+    be_refused(&rt, &mut back, &mut memory);
 }

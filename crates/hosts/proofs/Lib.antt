@@ -3,3 +3,4 @@ pub mod Longer
 pub mod Growing
 pub mod OlderRead
 pub mod KeptBack
+pub mod Determined

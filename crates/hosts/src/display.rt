@@ -1,4 +1,4 @@
-// The display's side: a scan line is a part of the lent memory, and a call beside it gives its number. Only a chip's control part is asked for.
+// The display's side: a scan line is a part of the lent memory, and a call beside it gives its place, or why there is none. Only a chip's control part is asked for.
 ghost use Rattle.std.specs.Prelude.{◌≡◌};
 ghost use Rattle.layout.specs.Memory.{placed_given};
 ghost use Rattle.chip.specs.Calls.{line_placed_of, scan_line_of};

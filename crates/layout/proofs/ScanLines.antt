@@ -1,19 +1,19 @@
 -- A scan line that is given lies in memory, and one that is refused is empty. Assumes nothing.
 use mathlib.Core.Path.{◌≡◌, refl, sym, ap, ◌∙◌}
 use mathlib.Core.Logic.{◌≢◌}
-use mathlib.Core.Bool.{true, cond, ◌&&◌}
+use mathlib.Core.Bool.{true, ◌&&◌}
 use mathlib.Core.List.{List, []}
 use Rattle.std.specs.Prelude.{Result, Ok, Err}
 use Prim.Native.Nat.{ℕ, ◌+◌, ◌*◌, ◌<◌, ◌≤◌}
 use native.Mathlib.Omega.{arith}
-use lib.Dec.{eqb, leb, ltb}
+use lib.Dec.{leb, ltb}
 use lib.ListN.{length, length-take, length-drop}
 use borrow.Author.Tests.{ltb-true, leb-true, eqb-true, not-false}
 use Rattle.layout.specs.Memory.{pages_fit, size, in_bank, place, on_line, line_start, scan_line, line_tests, line_number, LinePlaced, line_placed, placed_given, line_given}
 use Rattle.numbers.specs.declared.Refusal.{Refusal}
 use Rattle.numbers.specs.Refusals.{refusal_number}
-use Rattle.numbers.proofs.Refusals.{refusal_between, refusal_of, refused_back}
-use Rattle.numbers.proofs.Tests.{determined, none_applies, and_left, and_right, given_done, given_refused}
+use Rattle.numbers.proofs.Refusals.{refusal_between, result_determined}
+use Rattle.numbers.proofs.Tests.{none_applies, and_left, and_right, given_done, given_refused}
 use Rattle.layout.proofs.Places.{place_lt}
 
 -- the test of P, as numbers
@@ -96,17 +96,6 @@ module _ (P bank page line : ℕ) (memory : List ℕ) where
       let inside = line_inside e in
       rw (line_given_lem e) (simp (length-take, length-drop) (omega arith))
 
--- ---- equal numbers and starts are equal answers
-
--- the answer that has a number and a start
-from : LinePlaced → Result ℕ Refusal
-from g = cond (eqb g.number 0) (Ok g.start) (Err (refusal_of g.number))
-
-from_placed : (a : Result ℕ Refusal) → from (placed_given a) ≡ a
-unfolding from
-from_placed (Ok start) = refl
-from_placed (Err refusal) = refused_back _ refusal
-
--- 01, Expected form: so the promise determines the answer
+-- 01, Expected form: equal numbers and starts are equal answers
 pub placed_determined : (a b : Result ℕ Refusal) → placed_given a ≡ placed_given b → a ≡ b
-placed_determined = determined placed_given from from_placed
+placed_determined = result_determined placed_given (λ g. g.number) (λ g. g.start) (λ start. (refl, refl)) (λ r. refl)

@@ -13,7 +13,7 @@ use borrow.Author.Tests.{eqb-true}
 use Rattle.numbers.specs.Numbers.{first, when_done}
 use Rattle.numbers.proofs.Tests.{determined}
 use Rattle.numbers.specs.declared.Refusal.{Refusal}
-use Rattle.numbers.proofs.Refusals.{refusal_of, refused_back}
+use Rattle.numbers.proofs.Refusals.{result_determined}
 use Rattle.chip.specs.declared.Call.{Call}
 use Rattle.chip.specs.Operations.{ask}
 use Rattle.lines.specs.declared.reader.SoFar.{SoFar}
@@ -188,16 +188,6 @@ read_whole line = read_from line started tt ∙ rw (zero-add, all_numbers_lem (s
     go true false e = refl
     go true true e = ap is_call (in_places (split 32 line) (eqb-true (length (split 32 line)) 6 e))
 
--- ---- equal numbers and calls are equal answers
-
-from : TextGiven → Result Call Refusal
-from g = cond (eqb g.number 0) (Ok g.call) (Err (refusal_of g.number))
-
-from_given : (a : Result Call Refusal) → from (parsed_given a) ≡ a
-unfolding from
-from_given (Ok call) = refl
-from_given (Err refusal) = refused_back _ refusal
-
--- 01, Expected form: so the promise determines the answer
+-- 01, Expected form: equal numbers and calls are equal answers
 pub parsed_determined : (a b : Result Call Refusal) → parsed_given a ≡ parsed_given b → a ≡ b
-parsed_determined = determined parsed_given from from_given
+parsed_determined = result_determined parsed_given (λ g. g.number) (λ g. g.call) (λ call. (refl, refl)) (λ r. refl)

@@ -1,5 +1,6 @@
 -- 01, The small program: what it prints, as bytes. Assumes nothing.
-use Rattle.std.specs.Prelude.{cond, List, [], ◌∷◌, ◌++◌, ℕ, zero, suc, ◌+◌, ◌/◌, ◌%◌, ltb, replicate}
+use Rattle.std.specs.Prelude.{◌≡◌, length, cond, List, [], ◌∷◌, ◌++◌, ℕ, zero, suc, ◌+◌, ◌/◌, ◌%◌, ltb, replicate}
+use Rattle.std.proofs.lemmas.List.Edits.{sets}
 use Rattle.layout.specs.Memory.{size}
 use Rattle.chip.specs.State.{fresh_of}
 use Rattle.chip.specs.Answers.{GivenBack, four_numbers}
@@ -31,6 +32,11 @@ printed_given g = printed_line (four_numbers g)
 unfoldable pub printed_each : List GivenBack → List ℕ
 printed_each [] = []
 printed_each (g ∷ rest) = printed_given g ++ printed_each rest
+
+-- some bytes stored in a buffer from a place on: the place after them, and the buffer
+pub record Stored (before : List ℕ) (at : ℕ) (bytes after : List ℕ) (next : ℕ) : Type 0 where
+  pub place : next ≡ at + length bytes
+  pub buffer : after ≡ sets before at bytes
 
 -- 01, The small program: the header, "number value pass written" and byte 10
 unfoldable pub heading : List ℕ

@@ -1,12 +1,13 @@
 -- Numbers stored one behind the other are a row stored. Assumes nothing.
 use mathlib.Core.Path.{◌≡◌, refl, sym, ap, ◌∙◌}
-use mathlib.Core.List.{List, [], ◌∷◌, ◌++◌, append-nil}
-use Prim.Native.Nat.{ℕ, suc, ◌+◌, ◌*◌, ◌<◌}
+use mathlib.Core.List.{List, [], ◌∷◌, ◌++◌, append-nil, append_assoc}
+use Prim.Native.Nat.{ℕ, suc, ◌+◌, ◌*◌, ◌<◌, ◌≤◌}
 use native.Mathlib.Nat.{add-zero, zero-add}
 use native.Mathlib.Numerals.{add-one}
 use native.Mathlib.Omega.{arith}
-use lib.ListN.{length, get_or, set, take}
-use lib.Seq.{sets, sets-eq, length-take-le, drop-length}
+use lib.ListN.{length, get_or, set, take, drop}
+use borrow.Rule.Slice.PartMut.{put_mid}
+use lib.Seq.{sets, sets-eq, drop-drop, length-take-le, drop-length}
 use Rattle.std.proofs.lemmas.List.{take_more}
 use Rattle.lists.specs.Update.{update}
 use Rattle.lists.specs.Words.{put_half, put_word, bytes_from, as_bytes, halves, words}
@@ -21,6 +22,11 @@ sets_more (x ∷ a) b s p n e =
 -- bytes stored over all of a list
 pub sets_whole : (bytes s : List ℕ) → length bytes ≡ length s → sets s 0 bytes ≡ bytes
 sets_whole bytes s e = sets-eq bytes s 0 (omega arith) ∙ rw (zero-add, e, drop-length) (append-nil bytes)
+
+-- bytes copied over a part of a list
+pub part_put : (s xs new : List ℕ) (at k : ℕ) → at + length xs ≤ length s → new ≡ xs → k ≡ length xs → put_mid at k s new ≡ sets s at xs
+part_put s xs new at k h e f =
+    rw (e, f, drop-drop (length xs) at s) (sym (append_assoc (take at s) xs (drop (at + length xs) s))) ∙ sym (sets-eq xs s at h)
 
 -- ---- one number stored
 

@@ -1,8 +1,9 @@
 -- A refusal's number is 1 to 10, and the refusal is got back from it. Assumes nothing.
-use Rattle.std.proofs.Common.{arith, ◌≡◌, ℕ, ◌-◌, ◌≤◌, cond, eqb, [], ◌∷◌, get_or, Result, Err, refl}
+use Rattle.std.proofs.Common.{arith, ◌≡◌, ℕ, ◌-◌, ◌≤◌, cond, eqb, [], ◌∷◌, get_or, Result, Ok, Err, refl}
 use Rattle.numbers.specs.declared.Refusal.{Refusal}
 use Rattle.numbers.specs.declared.Refusal.TheVariants.{IllFormed, MemoryLength, UnknownOperation, OperandOutside, BitNotAllowed, BankOpen, BankClosed, OffScreen, NotALine, BufferInUse}
 use Rattle.numbers.specs.Refusals.{refusal_number}
+use Rattle.numbers.proofs.Tests.{determined}
 
 pub refusal_between : (r : Refusal) → (1 ≤ refusal_number r) × (refusal_number r ≤ 10)
 refusal_between IllFormed = (omega arith, omega arith)
@@ -44,3 +45,17 @@ refused_back done BankClosed = refl
 refused_back done OffScreen = refl
 refused_back done NotALine = refl
 refused_back done BufferInUse = refl
+
+-- the result that has this number and this value
+abbrev result_of : {A : Type 0} → ℕ → A → Result A Refusal
+result_of number value = cond (eqb number 0) (Ok value) (Err (refusal_of number))
+
+-- a result is determined by what is given of it: number 0 and its value, or its refusal's number
+pub result_determined : {A G : Type 0} (given : Result A Refusal → G) (number : G → ℕ) (value : G → A)
+    → ((x : A) → (number (given (Ok x)) ≡ 0) × (value (given (Ok x)) ≡ x)) → ((r : Refusal) → number (given (Err r)) ≡ refusal_number r)
+    → (a b : Result A Refusal) → given a ≡ given b → a ≡ b
+result_determined {A} {G} given number value done refused = determined given (λ (g : G). result_of (number g) (value g)) back
+  where
+    back : (a : Result A Refusal) → result_of (number (given a)) (value (given a)) ≡ a
+    back (Ok x) = rw ((done x).0, (done x).1)
+    back (Err r) = rw (refused r) (refused_back _ r)

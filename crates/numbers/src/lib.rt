@@ -1,40 +1,28 @@
-// The numbers that calls give back: 0 is done, and each other is a refusal's. Definitions and their laws, that all crates above go by.
+// The numbers that calls give back: 0 is done, and each other is a refusal's. With their laws, for all crates above.
 #![tactic(auto)]
 
 ghost use Rattle.std.specs.Prelude.{◌≡◌};
 ghost use Rattle.numbers.specs.Refusals.{refusal_number};
 
-// Why something is refused, in the order of the numbers: 1 to 10.
+// Why something is refused, each with its number.
 #[derive(Clone, Copy, Debug, PartialEq, Eq)]
 pub enum Refusal {
-    IllFormed,
-    MemoryLength,
-    UnknownOperation,
-    OperandOutside,
-    BitNotAllowed,
-    BankOpen,
-    BankClosed,
-    OffScreen,
-    NotALine,
-    BufferInUse,
+    IllFormed = 1,
+    MemoryLength = 2,
+    UnknownOperation = 3,
+    OperandOutside = 4,
+    BitNotAllowed = 5,
+    BankOpen = 6,
+    BankClosed = 7,
+    OffScreen = 8,
+    NotALine = 9,
+    BufferInUse = 10,
 }
 
-// The number of a refusal.
 impl From<Refusal> for u32 {
     ghost from_gives = { λ refusal number. number ≡ refusal_number refusal };
 
     fn from(refusal: Refusal) -> u32 {
-        match refusal {
-            Refusal::IllFormed => 1,
-            Refusal::MemoryLength => 2,
-            Refusal::UnknownOperation => 3,
-            Refusal::OperandOutside => 4,
-            Refusal::BitNotAllowed => 5,
-            Refusal::BankOpen => 6,
-            Refusal::BankClosed => 7,
-            Refusal::OffScreen => 8,
-            Refusal::NotALine => 9,
-            Refusal::BufferInUse => 10,
-        }
+        refusal as u32
     }
 }

@@ -11,7 +11,7 @@ use chip::{Answer, CLOSED, Refusal, answers};
 
 pub mod operands; // operands.rt: the documents' ranges
 
-// The page that is open in a bank, which a call on a closed bank is refused.
+// The page that is open in a bank; a call on a closed bank is refused.
 pub fn opened(s: &[u8], bank: u32) -> Result<u16, Refusal>
     requires { IsBlock s.now × (bank < 4) }
     ensures { result ≡ opened_in s.now bank }

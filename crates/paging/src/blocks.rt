@@ -16,6 +16,7 @@ use block::{fields, places};
 use chip::operations::Operation;
 use chip::{Answer, Call, Refusal};
 use own::{done, opened, operands};
+use pixel::registers::Register;
 
 // The bank that a call names, and the named block of its open page.
 fn named(s: &[u8], x: Call) -> (Bank, Place)
@@ -58,7 +59,7 @@ fn write_slot(s: &[u8], memory: &mut [u8], x: Call)
     let tag = fields::tag(s, x.c);
     let mask = bits::pick(
         x.op == Operation::MaskedWriteBlock as u32,
-        fields::register(s, 1),
+        fields::register(s, Register::PlaneMask as u32),
         0xffff_ffff,
     );
     bank::write_back_in(

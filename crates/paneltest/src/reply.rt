@@ -15,9 +15,9 @@ pub fn print<const N: usize>(answer: Answer, output: &mut ArrayString<N>)
     ensures { output.new.bytes ≡ output.old.bytes ++ printed_given (given_back answer) }
 {
     let Ok(done) = answer else {
-        return lines::printer::put_line(output, chip::answers::number(answer), 0, 0, 0);
+        return lines::printer::push_line(output, chip::answers::number(answer), 0, 0, 0);
     };
-    lines::printer::put_line(
+    lines::printer::push_line(
         output,
         0,
         done.value,

@@ -59,7 +59,7 @@ pub fn into_slot(registers: [u32; 7], w: Write, slots: u32) -> u32
     bits::pick(by_data, (w.given >> 27) % slots, w.slot)
 }
 
-// The word of that slot: its own, or the one that the data names. A function for both would be told bits and count, and be no plainer.
+// The word of that slot: its own, or the one that the data names. Slot and word have a sentence each in 01, and so a function each.
 pub fn into_word(registers: [u32; 7], w: Write) -> u32
     ensures { result ≡ into_word registers w }
 {

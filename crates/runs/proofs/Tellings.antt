@@ -5,7 +5,7 @@ use mathlib.Core.List.{List, [], ◌∷◌, append-nil}
 use Prim.Native.Nat.{ℕ, ◌+◌, ◌-◌, ◌*◌, ◌≤◌}
 use native.Mathlib.Omega.{arith}
 use lib.ListN.{length, drop_of_length-le}
-use lib.Seq.{sets, sets-eq}
+use lib.Seq.{sets, sets-eq, take-length}
 use borrow.Rule.Slice.PartMut.{put_mid}
 use Rattle.std.proofs.lemmas.Slice.{put_mid-paste}
 use Rattle.bits.specs.Bits.{digit}
@@ -31,11 +31,10 @@ refused_five answer refusal hit number h e at_number at_hit = rw (at_number, at_
 -- ---- stored
 
 -- five numbers copied over five
-pub five_put : (l new : List ℕ) (at a b c d e : ℕ) → at + 5 ≤ length l → new ≡ a ∷ b ∷ c ∷ d ∷ e ∷ []
-    → put_mid at (at + 5 - at) l new ≡ sets l at (a ∷ b ∷ c ∷ d ∷ e ∷ [])
-five_put l new at a b c d e h copied =
-    put_mid-paste at (at + 5 - at) l new (a ∷ b ∷ c ∷ d ∷ e ∷ []) 5 copied (omega arith) refl
-    ∙ sym (sets-eq (a ∷ b ∷ c ∷ d ∷ e ∷ []) l at h)
+pub five_put : (l new five : List ℕ) (at : ℕ) → at + 5 ≤ length l → 5 ≡ length five → new ≡ five
+    → put_mid at (at + 5 - at) l new ≡ sets l at five
+five_put l new five at h long copied =
+    put_mid-paste at (at + 5 - at) l new five 5 copied (omega arith) long ∙ rw (long, take-length five) refl ∙ sym (sets-eq five l at (omega (arith, h, long)))
 
 -- a list stored over one of its length
 pub all_stored : (l xs : List ℕ) → length l ≡ length xs → sets l 0 xs ≡ xs

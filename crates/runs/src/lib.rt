@@ -13,7 +13,7 @@ use calls::value;
 use chip::{Answer, Answered, Call, Chip, Refusal, answers, fresh};
 use layout::memory::pages_fit;
 
-// A call is six numbers, and five are told of it. Both lists are flat, as the small program and C have them, and of any length.
+// A call is six numbers, and five are told of it. The lists are flat: fewer than six numbers at the end are no call.
 const CALL_NUMBERS: usize = 6;
 
 const TOLD_NUMBERS: usize = 5;
@@ -33,46 +33,21 @@ fn call_of(six: &[u32; CALL_NUMBERS]) -> Call
     }
 }
 
-// Five numbers, one behind the other from `at` on.
-fn put_five(told: &mut [u32], at: usize, number: u32, value: u32, pass: u32, written: u32, hit: u32)
-    requires { at + 5 ≤ length told.old }
-    ensures { told.new ≡ sets told.old at (number ∷ value ∷ pass ∷ written ∷ hit ∷ []) }
-{
-    told[at..at + TOLD_NUMBERS].copy_from_slice(&[number, value, pass, written, hit]);
-}
-
-// What a call answered, taken apart, and the hit flag after it.
-fn tell(told: &mut [u32], at: usize, answer: Answer, hit: bool)
-    requires { at + 5 ≤ length told.old }
-    ensures { told.new ≡ sets told.old at (five_numbers (given_back answer) hit) }
+// What is told of a call: what it answered, taken apart, and the hit flag after it.
+fn five_of(answer: Answer, hit: bool) -> [u32; TOLD_NUMBERS]
+    ensures { result ≡ five_numbers (given_back answer) hit }
 {
     let flag = bits::digit_of(hit);
     let Ok(done) = answer else {
-        put_five(told, at, answers::number(answer), 0, 0, 0, flag);
-        return;
+        return [answers::number(answer), 0, 0, 0, flag];
     };
-    put_five(
-        told,
-        at,
+    [
         0,
         done.value,
         bits::digit_of(done.pass),
         bits::digit_of(done.written),
         flag,
-    );
-}
-
-// One call more, made on what the calls before it left, and told.
-fn next(chip: Chip, memory: &mut [u8], call: Call, told: &mut [u32], at: usize) -> Chip
-    requires { at + 5 ≤ length told.old }
-    ensures { (result ≡ chip_of chip memory.old call) × (memory.new ≡ memory_of chip memory.old call) × (told.new ≡ sets told.old at (told_by chip memory.old call)) }
-{
-    let answered = value::perform(chip, memory, call);
-    let answer = answered.answer;
-    let after = answered.chip;
-    let control = after.control;
-    tell(told, at, answer, control.hit);
-    after
+    ]
 }
 
 // Whether `told` has five numbers for each call.
@@ -103,7 +78,10 @@ pub fn run(chip: Chip, memory: &mut [u8], numbers: &[u32], told: &mut [u32]) -> 
     // Told at its place: nothing is said of what a slice ends as that `chunks_exact_mut` lent.
     let mut ran = chip;
     for (i, six) in calls.iter().enumerate() {
-        ran = next(ran, memory, call_of(six), told, TOLD_NUMBERS * i);
+        let answered = value::perform(ran, memory, call_of(six));
+        ran = answered.chip;
+        let at = TOLD_NUMBERS * i;
+        told[at..at + TOLD_NUMBERS].copy_from_slice(&five_of(answered.answer, ran.control.hit));
     }
     Answered {
         answer: answers::done(0),

@@ -60,8 +60,3 @@ chip_stored chip s {s₁} z e e₁ e₂ e₃ e₄ =
     ∙ (rw (zero-add, long) at (laid_from behind 0 (flatten before) s))
     ∙ ap (sets s 0) (sym (flatten_append before behind))
     ∙ sets_whole (encode chip) s (length_encode chip z ∙ sym e)
-
--- bytes copied over a part of a list
-pub part_put : (s xs new : List ℕ) (at k : ℕ) → at + length xs ≤ length s → new ≡ xs → k ≡ length xs → put_mid at k s new ≡ sets s at xs
-part_put s xs new at k h e f =
-    rw (e, f, drop-drop (length xs) at s) (sym (append_assoc (take at s) xs (drop (at + length xs) s))) ∙ sym (sets-eq xs s at h)

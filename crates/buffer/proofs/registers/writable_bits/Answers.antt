@@ -5,19 +5,19 @@ use Rattle.chip.specs.State.{writable}
 use Rattle.buffer.proofs.Settings.{writable_low}
 use Rattle.buffer.proofs.registers.writable_bits.Goals as goal
 
-pub returns-then-number-lt5 : goal.returns-then-number-lt5
-returns-then-number-lt5 c = writable_low c.args.number c.requires.0 c.if-number-lt5.true
+pub returns-then-number : goal.returns-then-number
+returns-then-number c = writable_low c.args.number c.requires.0 c.if-number.true
 
-pub returns-then-number-eq5 : goal.returns-then-number-eq5
+pub returns-then-number-2 : goal.returns-then-number-2
 unfolding writable
-returns-then-number-eq5 c = rw c.if-number-eq5.true
+returns-then-number-2 c = rw c.if-number-2.true
 
-pub returns-then-number-eq6 : goal.returns-then-number-eq6
+pub returns-then-number-3 : goal.returns-then-number-3
 unfolding writable
-returns-then-number-eq6 c = rw c.if-number-eq6.true
+returns-then-number-3 c = rw c.if-number-3.true
 
-pub returns-else-number-eq6 : goal.returns-else-number-eq6
+pub returns : goal.returns
 unfolding writable
-returns-else-number-eq6 c =
+returns c =
     let last : c.args.number ≡ 7 = omega arith in
     rw last

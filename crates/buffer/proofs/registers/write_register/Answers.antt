@@ -57,9 +57,9 @@ put_register_done s x r fits allowed stored is ends =
     put_done s x (write_register x.a x.given) _ r (by_asks (decode_control s) (write_register x.a x.given) _ fits {k = 0} (rw allowed)) stored
     (ap (λ (k : Control). leaving k still) is) ends
 
-pub returns-then-x-eq6 : goal.returns-then-x-eq6
+pub returns-then-x : goal.returns-then-x
 unfolding in_range
-returns-then-x-eq6 c =
+returns-then-x c =
     let given_small : c.args.x.given < 2 ^ 32 = search rules in
     let held : Stores c.args.s.now (decode c.args.s.now) = stores_of c.args.s.now (λ a. omega (arith, c.slice_known-1.given a)) c.requires.1 in
     let s = c.args.s.now in
@@ -67,7 +67,7 @@ returns-then-x-eq6 c =
     put_register_done s x (row_write_register x c.requires.2) (test_holds (c.fits.ensures ∙ register_fits c.args.x) c.if-not-fits.false)
     (test_holds (c.within.ensures ∙ ap (within x.given) c.writable_bits.ensures) c.if-not-within.false)
     (stores_flags (stores_register held 6 (x.given % 2 ^ 24) (lit≤ tt) (lit≤ tt) (omega arith)) _ _)
-    (compare_register (decode_control s) x.given ∙ ap (λ (n : ℕ). with_register (decode_control s) n x.given) (sym c.if-x-eq6.true))
+    (compare_register (decode_control s) x.given ∙ ap (λ (n : ℕ). with_register (decode_control s) n x.given) (sym c.if-x.true))
     (c.done.ensures.0, c.done.ensures.1 ∙ ap ticked_in c.put_compare.ensures)
 
 pub put_register-requires : goal.put_register-requires
@@ -85,5 +85,5 @@ returns c =
     put_register_done c.args.s.now x (row_write_register x c.requires.2) (test_holds (c.fits.ensures ∙ register_fits c.args.x) c.if-not-fits.false)
     (test_holds (c.within.ensures ∙ ap (within x.given) c.writable_bits.ensures) c.if-not-within.false)
     (stores_register held x.a x.given range.0 range.1 given_small)
-    (plain_register (decode_control c.args.s.now) x.a x.given (ne_eqb x.a 6 c.if-x-eq6.false))
+    (plain_register (decode_control c.args.s.now) x.a x.given (ne_eqb x.a 6 c.if-x.false))
     (c.done-2.ensures.0, c.done-2.ensures.1 ∙ ap ticked_in c.put_register.ensures)

@@ -1,7 +1,7 @@
 -- `chip::form::page_fits`: the sum wraps to 0 at 65535 alone. Assumes nothing.
-use Rattle.std.proofs.Common.{ℕ, leb, ap, ◌∙◌, rules}
+use Rattle.std.proofs.Common.{rules}
 use Rattle.chip.proofs.StateForms.{page_test}
 use Rattle.chip.proofs.form.page_fits.Goals as goal
 
 pub returns : goal.returns
-returns c = ap (λ (n : ℕ). leb n c.args.pages) c.wrapping_add_u16.ensures.value ∙ page_test c.args.pages c.args.page (search rules)
+returns c = page_test c.args.pages c.args.page (search rules)

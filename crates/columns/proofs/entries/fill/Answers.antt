@@ -1,6 +1,6 @@
 -- `columns::entries::fill`: past the last entry all 2,560 bytes are the table's. Assumes nothing.
 use mathlib.Core.Path.{◌≡◌, refl, sym, ap, ◌∙◌}
-use mathlib.Core.List.{List}
+use mathlib.Core.List.{List, [], ◌∷◌}
 use Prim.Native.Nat.{ℕ, ◌+◌, ◌*◌, ◌/◌, ◌%◌, ◌<◌}
 use native.Mathlib.Omega.{arith}
 use lib.ListN.{length, get_or, set, length-set}
@@ -34,8 +34,11 @@ turned entry x buffer h e long before =
 pub loop-x-preserved : goal.loop-x-preserved
 loop-x-preserved c j h =
     let x = c.loop-x.x in
-    turned _ x c.loop-x.buffer c.loop-x-test.true (entry_read _ x c.columns-entries.ensures c.loop-x-test.true) (c.loop-x.auto.buffer ∙ c.if-buffer-ne-TABLE_BYTES.false)
-    c.loop-x.invariant j (omega arith)
+    let entry = get_or c.columns-entries.result x 0 in
+    let small : entry / 256 % 256 ≡ entry / 256 = omega arith in
+    let bytes : c.to_le_bytes.result ≡ entry % 256 ∷ entry / 256 ∷ [] = c.to_le_bytes.ensures ∙ ap (λ (u : ℕ). entry % 256 ∷ u ∷ []) small in
+    rw bytes (turned _ x c.loop-x.buffer c.loop-x-test.true (entry_read _ x c.columns-entries.ensures c.loop-x-test.true) (c.loop-x.auto.buffer ∙ c.if-buffer-ne-TABLE_BYTES.false)
+    c.loop-x.invariant j (omega arith))
 
 pub returns : goal.returns
 unfolding columns_left columns_number first column_bytes
