@@ -3,7 +3,8 @@
 #![tactic(auto)]
 
 ghost use Rattle.std.specs.Prelude.{◌≡◌};
-ghost use Rattle.chip.specs.Calls.{chip_of, memory_of};
+ghost use Rattle.chip.specs.Answers.{given_back};
+ghost use Rattle.chip.specs.Calls.{call_given, chip_of, memory_of};
 
 use block::places;
 use chip::operations::Operation;
@@ -29,11 +30,13 @@ fn tell(rt: &impl Print, name: &str, answer: Answer) {
     println!(rt; "{name}: done, value {value}").is_ok();
 }
 
-// Makes a call and says what it answered.
-fn step(rt: &impl Print, name: &str, chip: &mut Chip, memory: &mut [u8], x: Call)
-    ensures { (chip.new ≡ chip_of chip.old memory.old x) × (memory.new ≡ memory_of chip.old memory.old x) }
+// Makes a call, says what it answered, and gives the answer back: answer, chip and memory are those of the call by value.
+fn step(rt: &impl Print, name: &str, chip: &mut Chip, memory: &mut [u8], x: Call) -> Answer
+    ensures { (given_back result ≡ call_given chip.old memory.old x) × (chip.new ≡ chip_of chip.old memory.old x) × (memory.new ≡ memory_of chip.old memory.old x) }
 {
-    tell(rt, name, hosts::lent::call_on(chip, memory, x));
+    let answer = hosts::lent::call_on(chip, memory, x);
+    tell(rt, name, answer);
+    answer
 }
 
 // Shows the first word of a scan line, or says with which number it is refused.
@@ -61,14 +64,14 @@ fn call(op: Operation, a: u32, b: u32, c: u32, d: u32, given: u32) -> Call {
 
 // Opens page 0 of bank 0 and loads its block 0 into slot 0.
 fn load(rt: &impl Print, chip: &mut Chip, memory: &mut [u8]) {
-    step(
+    let _ = step(
         rt,
         "access page",
         chip,
         memory,
         call(Operation::AccessPage, 0, 0, 0, 0, 0),
     );
-    step(
+    let _ = step(
         rt,
         "read block",
         chip,
@@ -80,14 +83,14 @@ fn load(rt: &impl Print, chip: &mut Chip, memory: &mut [u8]) {
 // Writes a word into slot 0, all four of its bytes; made once more, the write changes none.
 fn draw(rt: &impl Print, chip: &mut Chip, memory: &mut [u8]) {
     let write = call(Operation::StatefulNormalWrite, 0, 0, 15, 3, 0x0102_0304);
-    step(rt, "data write", chip, memory, write);
-    step(rt, "data write, again", chip, memory, write);
+    let _ = step(rt, "data write", chip, memory, write);
+    let _ = step(rt, "data write, again", chip, memory, write);
 }
 
 // A word that waits in the pixel buffer is not on the scan line: it is there after the write-back.
 fn write_back(rt: &impl Print, chip: &mut Chip, memory: &mut [u8]) {
     show(rt, chip.control, memory, FIRST_LINE);
-    step(
+    let _ = step(
         rt,
         "write block",
         chip,
@@ -99,14 +102,14 @@ fn write_back(rt: &impl Print, chip: &mut Chip, memory: &mut [u8]) {
 
 // Transfers the scan line into video buffer 0, which is selected, and puts out its first two bytes.
 fn scan_out(rt: &impl Print, chip: &mut Chip, memory: &mut [u8]) {
-    step(
+    let _ = step(
         rt,
         "video transfer",
         chip,
         memory,
         call(Operation::VideoTransfer, 0, 0, 0, 0, 0),
     );
-    step(
+    let _ = step(
         rt,
         "video clock",
         chip,
@@ -141,14 +144,14 @@ fn be_refused(rt: &impl Print, chip: &mut Chip, memory: &mut [u8]) {
         ..FIRST_LINE
     };
     show(rt, chip.control, memory, of_page_1);
-    step(
+    let _ = step(
         rt,
         "access page",
         chip,
         memory,
         call(Operation::AccessPage, 0, 0, 0, 0, 0),
     );
-    step(
+    let _ = step(
         rt,
         "video transfer",
         chip,

@@ -69,9 +69,9 @@ impl LittleEndian for u32 {
 
     const WIDTH: usize = 4;
 
-    #[tactic(auto, unfolding(crate::specs::Words::word_at, bits::specs::Bits::joined))]
+    #[tactic(auto, unfolding(crate::specs::Words::word_at))]
     fn get(s: &[u8], at: usize) -> u32 {
-        u32::from_le_bytes([s[at], s[at + 1], s[at + 2], s[at + 3]])
+        bits::join(s[at], s[at + 1], s[at + 2], s[at + 3])
     }
 
     #[tactic(auto, unfolding(crate::specs::Words::put_word, crate::specs::Update::update, bits::specs::Bits::byte))]

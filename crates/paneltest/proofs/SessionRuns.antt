@@ -2,11 +2,11 @@
 use mathlib.Core.Path.{◌≡◌, refl}
 use mathlib.Core.Bool.{Bool, true, false, cond}
 use mathlib.Core.List.{List, [], ◌∷◌, ◌++◌, append_assoc}
-use Prim.Native.Nat.{ℕ, zero, suc, ◌+◌, ◌≤◌, ◌<◌}
+use Prim.Native.Nat.{ℕ, zero, suc, ◌+◌, ◌*◌, ◌≤◌, ◌<◌}
 use native.Mathlib.Numerals.{add-one}
 use native.Mathlib.Omega.{arith}
 use lib.Dec.{eqb}
-use lib.ListN.{length, take, get_or}
+use lib.ListN.{length, take, get_or, length-append}
 use lib.Seq.{take-suc}
 use Rattle.chip.specs.declared.Chip.{Chip}
 use Rattle.numbers.specs.Numbers.{when_done}
@@ -16,7 +16,7 @@ use Rattle.lines.specs.Printing.{printed_given}
 use Rattle.lines.specs.ByByte.{ended, has_byte}
 use Rattle.lines.proofs.Digits.{line_count}
 use Rattle.paneltest.specs.declared.session.Session.{Session}
-use Rattle.paneltest.specs.Session.{Run, and_then, line_run, byte_run, close_run, ran, Leaves}
+use Rattle.paneltest.specs.Session.{Run, and_then, line_run, byte_run, close_run, start_run, ran, Leaves}
 
 -- ---- what functions leave, one after another
 
@@ -59,7 +59,22 @@ pub close_line : (session : Session) (memory : List ℕ) → has_byte session.re
 unfolding close_run
 close_line session memory e = cc e
 
+pub close_none : (session : Session) (memory : List ℕ) → has_byte session.reader ≡ false → close_run session memory ≡ start_run session memory
+unfolding close_run
+close_none session memory e = cc e
+
+pub close_room : (session : Session) (memory : List ℕ) → length (close_run session memory).printed ≤ 44
+unfolding close_run
+close_room session memory = either_room (has_byte session.reader) _ _ (line_room (ended session.reader) session.chip memory) (omega arith)
+
 -- ---- a piece of the input, and then another
+
+pub ran_room : (run : Run) (input : List ℕ) → length (ran run input).printed ≤ length run.printed + length input * 44
+unfolding ran
+ran_room run [] = omega arith
+ran_room run (x ∷ input) =
+    let next = byte_run run.session run.memory x in
+    omega (arith, ran_room (and_then run next) input, byte_room run.session run.memory x, length-append run.printed next.printed)
 
 pub ran_append : (run : Run) (a b : List ℕ) → ran run (a ++ b) ≡ ran (ran run a) b
 unfolding ran

@@ -1,4 +1,4 @@
--- The parts of a chip stored one behind the other are its block, and a part read from it. Assumes nothing.
+-- The parts of a chip stored one behind the other are its block. Assumes nothing.
 use mathlib.Core.Path.{◌≡◌, refl, sym, ap, ap₂, ◌∙◌}
 use mathlib.Core.List.{List, [], ◌∷◌, ◌++◌, flatten, append_assoc, append-nil}
 use Prim.Native.Nat.{ℕ, ◌+◌, ◌*◌, ◌≤◌}
